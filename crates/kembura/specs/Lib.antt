@@ -5,28 +5,51 @@ pub use Rattle.law_assignments.specs.Laws as AssignmentsLaws
 pub use Rattle.law_assignments.specs.Models
 pub use Rattle.law_assignments.specs.Rows as AssignmentsRows
 pub use Rattle.law_blasting.specs.CircuitLaws
-pub use Rattle.law_blasting.specs.Examples as BlastingExamples
 pub use Rattle.law_blasting.specs.Laws as BlastingLaws
 pub use Rattle.law_blasting.specs.NewTerms
 pub use Rattle.law_blasting.specs.Numbering
+pub use Rattle.law_blasting.specs.Rows as BlastingRows
 pub use Rattle.law_blasting.specs.Sizes
 pub use Rattle.law_blasting.specs.Theorem
-pub use Rattle.law_cedar.specs.Examples as EnvironmentExamples
 pub use Rattle.law_cedar.specs.Laws as EnvironmentLaws
+pub use Rattle.law_cedar.specs.Rows as EnvironmentRows
 pub use Rattle.law_cedar.specs.Symbolized
-pub use Rattle.law_cedar.specs.ValueExamples
 pub use Rattle.law_cedar.specs.ValueLaws
+pub use Rattle.law_cedar.specs.ValueRows
+pub use Rattle.law_clauses.specs.Applications as ClausesApplications
+pub use Rattle.law_clauses.specs.Bits
 pub use Rattle.law_clauses.specs.Clauses
+pub use Rattle.law_clauses.specs.Entities as ClausesEntities
+pub use Rattle.law_clauses.specs.Equality
+pub use Rattle.law_clauses.specs.Example as ClausesExample
+pub use Rattle.law_clauses.specs.Extensions as ClausesExtensions
+pub use Rattle.law_clauses.specs.GateClauses
 pub use Rattle.law_clauses.specs.Gates
+pub use Rattle.law_clauses.specs.Known
+pub use Rattle.law_clauses.specs.Options
+pub use Rattle.law_clauses.specs.Parts as ClausesParts
+pub use Rattle.law_clauses.specs.PatternTests
+pub use Rattle.law_clauses.specs.ProductOverflows
+pub use Rattle.law_clauses.specs.Products
+pub use Rattle.law_clauses.specs.Quotients
+pub use Rattle.law_clauses.specs.Records
 pub use Rattle.law_clauses.specs.Rows as ClausesRows
+pub use Rattle.law_clauses.specs.Sequents
+pub use Rattle.law_clauses.specs.Sets
+pub use Rattle.law_clauses.specs.Shapes as ClausesShapes
+pub use Rattle.law_clauses.specs.SignedQuotients
+pub use Rattle.law_clauses.specs.Statements
+pub use Rattle.law_clauses.specs.Strings
+pub use Rattle.law_clauses.specs.Structure
+pub use Rattle.law_clauses.specs.ValidRows
 pub use Rattle.law_extensions.specs.Answers
-pub use Rattle.law_extensions.specs.Examples as ExtensionsExamples
 pub use Rattle.law_extensions.specs.ExtensionFunctions
+pub use Rattle.law_extensions.specs.FoldedRows
 pub use Rattle.law_extensions.specs.Laws as ExtensionsLaws
 pub use Rattle.law_extensions.specs.Readings
 pub use Rattle.law_extensions.specs.Rows as ExtensionsRows
 pub use Rattle.law_extensions.specs.Rules
-pub use Rattle.law_extensions.specs.TextExamples
+pub use Rattle.law_extensions.specs.TextRows
 pub use Rattle.law_extensions.specs.Values as ExtensionsValues
 pub use Rattle.law_folding.specs.AppOf
 pub use Rattle.law_folding.specs.Applications
@@ -57,7 +80,6 @@ pub use Rattle.law_jobs.specs.Enums as JobsEnums
 pub use Rattle.law_jobs.specs.Jobs
 pub use Rattle.law_jobs.specs.Laws as JobsLaws
 pub use Rattle.law_jobs.specs.Outcomes
-pub use Rattle.law_jobs.specs.Parts as JobsParts
 pub use Rattle.law_jobs.specs.Steps as JobSteps
 pub use Rattle.law_jobs.specs.Types as JobsTypes
 pub use Rattle.law_lines.specs.EntryNames
@@ -76,27 +98,26 @@ pub use Rattle.law_lines.specs.TableGrowth
 pub use Rattle.law_lines.specs.Text
 pub use Rattle.law_numbers.specs.BitOperators
 pub use Rattle.law_numbers.specs.BitVectors
-pub use Rattle.law_numbers.specs.Examples as NumbersExamples
 pub use Rattle.law_numbers.specs.Laws as NumbersLaws
 pub use Rattle.law_numbers.specs.Longs
+pub use Rattle.law_numbers.specs.Rows as NumbersRows
 pub use Rattle.law_numbers.specs.Shifts
 pub use Rattle.law_scripts.specs.CommandLines
 pub use Rattle.law_scripts.specs.DeclarationLines
-pub use Rattle.law_scripts.specs.LongSample
+pub use Rattle.law_scripts.specs.LongRows
 pub use Rattle.law_scripts.specs.Meanings as ScriptsMeanings
 pub use Rattle.law_scripts.specs.NoScripts
 pub use Rattle.law_scripts.specs.Numerals
-pub use Rattle.law_scripts.specs.Samples as ScriptsSamples
+pub use Rattle.law_scripts.specs.Rows as ScriptsRows
 pub use Rattle.law_scripts.specs.Script
 pub use Rattle.law_scripts.specs.ScriptOrder
 pub use Rattle.law_scripts.specs.ScriptValues
-pub use Rattle.law_scripts.specs.SelectorSamples
+pub use Rattle.law_scripts.specs.SelectorRows
 pub use Rattle.law_scripts.specs.Sorts
 pub use Rattle.law_scripts.specs.Value
 pub use Rattle.law_scripts.specs.Written
 pub use Rattle.law_scripts.specs.WrittenStrings
 pub use Rattle.law_terms.specs.Defaults
-pub use Rattle.law_terms.specs.Examples
 pub use Rattle.law_terms.specs.Faults
 pub use Rattle.law_terms.specs.Fits
 pub use Rattle.law_terms.specs.Formed
@@ -107,14 +128,15 @@ pub use Rattle.law_terms.specs.Literals
 pub use Rattle.law_terms.specs.Meaning
 pub use Rattle.law_terms.specs.Meanings
 pub use Rattle.law_terms.specs.Names
-pub use Rattle.law_terms.specs.NodeExamples
 pub use Rattle.law_terms.specs.NodeLaws
+pub use Rattle.law_terms.specs.NodeRows
 pub use Rattle.law_terms.specs.Nodes
 pub use Rattle.law_terms.specs.Operators
 pub use Rattle.law_terms.specs.Parts
 pub use Rattle.law_terms.specs.Patterns
 pub use Rattle.law_terms.specs.Plain
 pub use Rattle.law_terms.specs.Reached
+pub use Rattle.law_terms.specs.Rows as TermsRows
 pub use Rattle.law_terms.specs.Shapes
 pub use Rattle.law_terms.specs.Tables
 pub use Rattle.law_terms.specs.TermOrder
@@ -130,6 +152,7 @@ pub use Rattle.law_texts.specs.Escapes
 pub use Rattle.law_texts.specs.Front
 pub use Rattle.law_texts.specs.Lexicon
 pub use Rattle.law_texts.specs.LineTexts
+pub use Rattle.law_texts.specs.Parts as TextsParts
 pub use Rattle.law_texts.specs.QuotedTexts
 pub use Rattle.law_texts.specs.Quoting
 pub use Rattle.law_texts.specs.Reading
@@ -156,29 +179,6 @@ pub use Rattle.law_theorem.specs.SortedScripts
 pub use Rattle.law_theorem.specs.Stated
 pub use Rattle.law_theorem.specs.TextValues
 pub use Rattle.law_theorem.specs.WellWritten
-pub use Rattle.law_valid_clauses.specs.Applications as ValidClausesApplications
-pub use Rattle.law_valid_clauses.specs.Bits
-pub use Rattle.law_valid_clauses.specs.Entities as ValidClausesEntities
-pub use Rattle.law_valid_clauses.specs.Equality
-pub use Rattle.law_valid_clauses.specs.Example as ValidClausesExample
-pub use Rattle.law_valid_clauses.specs.Extensions as ValidClausesExtensions
-pub use Rattle.law_valid_clauses.specs.Gates as ValidClausesGates
-pub use Rattle.law_valid_clauses.specs.Known
-pub use Rattle.law_valid_clauses.specs.Options
-pub use Rattle.law_valid_clauses.specs.Parts as ValidClausesParts
-pub use Rattle.law_valid_clauses.specs.PatternTests
-pub use Rattle.law_valid_clauses.specs.ProductOverflows
-pub use Rattle.law_valid_clauses.specs.Products
-pub use Rattle.law_valid_clauses.specs.Quotients
-pub use Rattle.law_valid_clauses.specs.Records
-pub use Rattle.law_valid_clauses.specs.Rows as ValidClausesRows
-pub use Rattle.law_valid_clauses.specs.Sequents
-pub use Rattle.law_valid_clauses.specs.Sets
-pub use Rattle.law_valid_clauses.specs.Shapes as ValidClausesShapes
-pub use Rattle.law_valid_clauses.specs.SignedQuotients
-pub use Rattle.law_valid_clauses.specs.Statements
-pub use Rattle.law_valid_clauses.specs.Strings
-pub use Rattle.law_valid_clauses.specs.Structure
 pub use Rattle.law_verdicts.specs.Broken
 pub use Rattle.law_verdicts.specs.Chunks
 pub use Rattle.law_verdicts.specs.Dialogues
@@ -192,13 +192,11 @@ pub use Rattle.law_verdicts.specs.InHand
 pub use Rattle.law_verdicts.specs.Joined
 pub use Rattle.law_verdicts.specs.Machine
 pub use Rattle.law_verdicts.specs.Rows as VerdictsRows
-pub use Rattle.law_verdicts.specs.Samples as VerdictsSamples
 pub use Rattle.law_verdicts.specs.Scan
 pub use Rattle.law_verdicts.specs.Streams
+pub use Rattle.law_verdicts.specs.TruthRows
 pub use Rattle.law_verdicts.specs.Truths
 pub use Rattle.law_verdicts.specs.Verdicts
-pub use Rattle.smt_apply.specs.Applied as NodeApplications
-pub use Rattle.smt_apply.specs.Labels as NodeApplicationLabels
 pub use Rattle.smt_bits.specs.BitVec
 pub use Rattle.smt_bits.specs.Fin
 pub use Rattle.smt_bits.specs.Printed as BitsPrinted
@@ -210,19 +208,6 @@ pub use Rattle.smt_blast_run.specs.Meaning as BlastMeaning
 pub use Rattle.smt_blast_run.specs.Refusal as BlastRefusal
 pub use Rattle.smt_blast_run.specs.Run as BlastRun
 pub use Rattle.smt_blast_run.specs.Words as BlastWords
-pub use Rattle.smt_cedar.specs.AttributeMaps
-pub use Rattle.smt_cedar.specs.Cedar
-pub use Rattle.smt_cedar.specs.Constructed
-pub use Rattle.smt_cedar.specs.Constructors
-pub use Rattle.smt_cedar.specs.EntityTypes
-pub use Rattle.smt_cedar.specs.Examples as CedarExamples
-pub use Rattle.smt_cedar.specs.Named as CedarNamed
-pub use Rattle.smt_cedar.specs.Plain as CedarPlain
-pub use Rattle.smt_cedar.specs.RefusedTypes
-pub use Rattle.smt_cedar.specs.RefusedValues
-pub use Rattle.smt_cedar.specs.TypeOfCedar
-pub use Rattle.smt_cedar.specs.TypeView
-pub use Rattle.smt_cedar.specs.ValueView
 pub use Rattle.smt_clauses.specs.Assumed
 pub use Rattle.smt_clauses.specs.Loops
 pub use Rattle.smt_clauses.specs.Marked
@@ -254,7 +239,7 @@ pub use Rattle.smt_encode.specs.Refusals as EncodeRefusals
 pub use Rattle.smt_eval.specs.AssignmentView
 pub use Rattle.smt_eval.specs.Evaluable
 pub use Rattle.smt_eval.specs.InputRefused
-pub use Rattle.smt_eval.specs.Places as AssignmentPlaces
+pub use Rattle.smt_eval.specs.FirstPlaces as AssignmentPlaces
 pub use Rattle.smt_eval.specs.ReaderView
 pub use Rattle.smt_eval.specs.WrittenView
 pub use Rattle.smt_eval_run.specs.Answers as EvalAnswers
@@ -268,26 +253,28 @@ pub use Rattle.smt_ext.specs.DatetimeText
 pub use Rattle.smt_ext.specs.Decimal
 pub use Rattle.smt_ext.specs.DurationRefusal
 pub use Rattle.smt_ext.specs.DurationText
-pub use Rattle.smt_ext.specs.Examples as ExtExamples
 pub use Rattle.smt_ext.specs.ExtOrder
 pub use Rattle.smt_ext.specs.Extensions
-pub use Rattle.smt_ext.specs.IpExamples
 pub use Rattle.smt_ext.specs.IpOrder
 pub use Rattle.smt_ext.specs.IpPrinted
 pub use Rattle.smt_ext.specs.IpRanges
+pub use Rattle.smt_ext.specs.IpRows
 pub use Rattle.smt_ext.specs.IpText
 pub use Rattle.smt_ext.specs.IpView
 pub use Rattle.smt_ext.specs.Milliseconds
 pub use Rattle.smt_ext.specs.Printed as ExtPrinted
+pub use Rattle.smt_ext.specs.Rows as ExtRows
 pub use Rattle.smt_factory.specs.Closures
 pub use Rattle.smt_factory.specs.Pairs as FactoryPairs
-pub use Rattle.smt_factory_bits.specs.FoldBy
 pub use Rattle.smt_factory_core.specs.AnyOf
 pub use Rattle.smt_factory_core.specs.AnyRows
-pub use Rattle.smt_job_declarations.specs.DeclarationView
-pub use Rattle.smt_job_declarations.specs.ReadAs
+pub use Rattle.smt_factory_core.specs.FoldBy
+pub use Rattle.smt_job_terms.specs.DeclarationView
+pub use Rattle.smt_job_terms.specs.ReadAs
+pub use Rattle.smt_jobs.specs.Applied as NodeApplications
 pub use Rattle.smt_jobs.specs.Direct as DirectReading
 pub use Rattle.smt_jobs.specs.JobView
+pub use Rattle.smt_jobs.specs.Labels as NodeApplicationLabels
 pub use Rattle.smt_jobs.specs.Numbered
 pub use Rattle.smt_jobs.specs.Numbers as JobNumbers
 pub use Rattle.smt_jobs.specs.Refused as JobsRefused
@@ -387,31 +374,44 @@ pub use Rattle.smt_symbolizer.specs.EntityView
 pub use Rattle.smt_symbolizer.specs.Listed
 pub use Rattle.smt_symbolizer.specs.Named as SymbolizerNamed
 pub use Rattle.smt_symbolizer.specs.View as SymbolizerView
+pub use Rattle.smt_term.specs.Entities
+pub use Rattle.smt_term.specs.Enums as TermEnums
+pub use Rattle.smt_term.specs.ExtensionView
 pub use Rattle.smt_term.specs.Functions as TermFunctions
 pub use Rattle.smt_term.specs.Maps as TermMaps
 pub use Rattle.smt_term.specs.Orders
+pub use Rattle.smt_term.specs.Pairs as TermPairs
+pub use Rattle.smt_term.specs.PatternOrder
+pub use Rattle.smt_term.specs.PatternView
 pub use Rattle.smt_term.specs.Printed as TermPrinted
 pub use Rattle.smt_term.specs.Program as TermProgram
+pub use Rattle.smt_term.specs.ProgramTypes
+pub use Rattle.smt_term.specs.SortedPairs
 pub use Rattle.smt_term.specs.Tables as TermTables
+pub use Rattle.smt_term.specs.TextSets
+pub use Rattle.smt_term.specs.TypeKinds
+pub use Rattle.smt_term.specs.TypeMaps
+pub use Rattle.smt_term.specs.TypeView
 pub use Rattle.smt_term.specs.View as TermView
-pub use Rattle.smt_types.specs.Entities
-pub use Rattle.smt_types.specs.Enums as TypesEnums
-pub use Rattle.smt_types.specs.ExtensionView
-pub use Rattle.smt_types.specs.Maps as TypesMaps
-pub use Rattle.smt_types.specs.Pairs as TypesPairs
-pub use Rattle.smt_types.specs.PatternOrder
-pub use Rattle.smt_types.specs.PatternView
-pub use Rattle.smt_types.specs.Program as TypesProgram
-pub use Rattle.smt_types.specs.SortedPairs
-pub use Rattle.smt_types.specs.TextSets
-pub use Rattle.smt_types.specs.TypeKinds
-pub use Rattle.smt_types.specs.View as TypesView
+pub use Rattle.smt_values.specs.AttributeMaps
+pub use Rattle.smt_values.specs.Cedar
+pub use Rattle.smt_values.specs.Constructed
+pub use Rattle.smt_values.specs.Constructors
 pub use Rattle.smt_values.specs.DefaultTerm
-pub use Rattle.smt_values.specs.Examples as ValuesExamples
+pub use Rattle.smt_values.specs.EntityTypes
 pub use Rattle.smt_values.specs.Literals as ValuesLiterals
+pub use Rattle.smt_values.specs.Named as CedarNamed
+pub use Rattle.smt_values.specs.PlainValues as CedarPlain
 pub use Rattle.smt_values.specs.Refused as ValuesRefused
-pub use Rattle.smt_values.specs.StoreExamples
+pub use Rattle.smt_values.specs.RefusedTypes
+pub use Rattle.smt_values.specs.RefusedValues
+pub use Rattle.smt_values.specs.Rows as ValuesRows
 pub use Rattle.smt_values.specs.StoreLaws
+pub use Rattle.smt_values.specs.StoreRows
 pub use Rattle.smt_values.specs.Stores
 pub use Rattle.smt_values.specs.TermOfValue
+pub use Rattle.smt_values.specs.TypeOfCedar
+pub use Rattle.smt_values.specs.TypeRows
+pub use Rattle.smt_values.specs.TypeView as CedarTypeView
+pub use Rattle.smt_values.specs.ValueView
 pub use Rattle.smt_values.specs.View as ValuesView

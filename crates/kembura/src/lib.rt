@@ -3,17 +3,19 @@
 //!
 //! | Name | What it has |
 //! |---|---|
-//! | `terms`, `types`, `texts`, `bits`, `extensions` | terms and their types, texts, bitvectors, values of the extension types |
+//! | `terms`, `texts`, `bits`, `extensions` | terms and their types, texts, bitvectors, values of the extension types |
 //! | `factory` | the calls that build terms and fold constants |
-//! | `encode`, `script`, `expressions`, `nodes`, `applications` | the encoder to SMT-LIB 2.7, sinks and lines of scripts, the reader of S-expressions, numbered nodes, operators at these |
+//! | `encode`, `script`, `expressions`, `nodes` | the encoder to SMT-LIB 2.7, sinks and lines of scripts, the reader of S-expressions,
+//! numbered nodes |
 //! | `solve`, `pool` | links to solvers, sessions, processes; pools of sessions, and the check of a script |
 //! | `mini`, `stream` | a small solver; the run of `smtmini`, and links to small solvers in memory |
-//! | `jobs`, `runs`, `program` | the reader of jobs; scripts and checks of a job's steps; the run of `smtcli` |
+//! | `jobs`, `runs`, `program` | the reader of jobs, and operators at numbered nodes; scripts and checks of a job's steps; the run of
+//! `smtcli` |
 //! | `blast`, `blast_run` | terms over bitvectors as Boolean terms over their bits; the run of `smtblast` |
 //! | `eval`, `eval_run` | what terms are worth in an assignment that is given; the run of `smteval` |
 //! | `clauses`, `search`, `dimacs` | clauses and a checker of proofs, a search for truths that make them true, their texts |
 //! | `review` | the question whether two conditions are equivalent, one implies the other, or both never hold; the run of `smtreview` |
-//! | `cedar`, `values`, `symbolizer` | Cedar's types and values, their terms, and the tables of a schema, a request and a store |
+//! | `values`, `symbolizer` | Cedar's types and values, their terms, and the tables of a schema, a request and a store |
 //! | `laws` | the laws of the definitions, by subject |
 //!
 //! The main types stand here too. Where two definitions' files have one name, the later one's name here begins with its crate's,
@@ -22,12 +24,10 @@
 
 pub mod laws;
 
-pub use smt_apply as applications;
 pub use smt_bits as bits;
 pub use smt_bits::{BitVec, Width};
 pub use smt_blast as blast;
 pub use smt_blast_run::blast_run;
-pub use smt_cedar as cedar;
 pub use smt_clauses as clauses;
 pub use smt_clauses::{ClauseList, Proof, refutes};
 pub use smt_cli as program;
@@ -68,5 +68,4 @@ pub use smt_term::{
     TermSet, TermType, TermVar, Text, TypeMap, UnaryFunction, Uuf,
 };
 pub use smt_text as texts;
-pub use smt_types as types;
 pub use smt_values as values;

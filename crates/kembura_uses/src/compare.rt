@@ -6,7 +6,7 @@ ghost use Rattle.kembura.specs.InHand.{IsBlankLink};
 ghost use Rattle.kembura.specs.Plain.{BoolType};
 ghost use Rattle.kembura.specs.Session.{session_link, state_by};
 ghost use Rattle.kembura.specs.TermView.{plain_term};
-ghost use Rattle.kembura.specs.TypesEnums.{enums_of};
+ghost use Rattle.kembura.specs.TermEnums.{enums_of};
 ghost use Rattle.kembura.specs.Typing.{Typed};
 
 use crate::decide::decide;
@@ -32,8 +32,12 @@ pub(crate) fn compare<L: Link>(
     b: Term,
     session: &mut LocalSolver<L>,
 ) -> Result<Decision>
-    ensures believed { Typed (plain_term a) BoolType → Typed (plain_term b) BoolType → IsHonest (L.allows (session_link session.old)) → IsBlankLink (state_by L.state session.old) →
-        IfOk result (λ decision. decision ≡ Decision.Unsat → AreRelated (enums_of enums.now) relation (plain_term a) (plain_term b)) }
+    ensures believed { Typed (plain_term a) BoolType → Typed (plain_term b) BoolType →
+        IsHonest (L.allows (session_link session.old)) →
+        IsBlankLink (state_by L.state session.old) →
+        IfOk result (λ decision.
+        decision ≡ Decision.Unsat →
+        AreRelated (enums_of enums.now) relation (plain_term a) (plain_term b)) }
 {
     // What they say of terms and of differences is what the clause asks of the two conditions.
     program_terms();

@@ -1,10 +1,10 @@
 //! A caller with a clause of its own: whether conditions on a request can all hold, as a script for a solver.
-ghost use Rattle.std.specs.Prelude.{◌≡◌, IfOk, map};
+ghost use Rattle.std.specs.Prelude.{◌≡◌, IfOk};
 ghost use Rattle.kembura.specs.Headline.{Headline};
 ghost use Rattle.kembura.specs.Memory.{list_bytes};
 ghost use Rattle.kembura.specs.NameTables.{Tables};
-ghost use Rattle.kembura.specs.TermView.{plain_term};
-ghost use Rattle.kembura.specs.TypesEnums.{enums_of};
+ghost use Rattle.kembura.specs.TermView.{plain_terms};
+ghost use Rattle.kembura.specs.TermEnums.{enums_of};
 ghost use Rattle.kembura.specs.Typing.{AreBoolean};
 
 use kembura::bits::SIXTY_FOUR;
@@ -40,7 +40,10 @@ pub(crate) fn script_of(
     enums: &EnumTable,
     conditions: &[Term],
 ) -> Result<ListSink, EncodeError>
-    ensures { AreBoolean (map plain_term conditions.now) → IfOk result (λ script. (names : Tables) × Headline (enums_of enums.now) names (map plain_term conditions.now) (list_bytes script)) }
+    ensures { AreBoolean (plain_terms conditions.now) →
+        IfOk result (λ script.
+        (names : Tables)
+        × Headline (enums_of enums.now) names (plain_terms conditions.now) (list_bytes script)) }
 {
     let mut encoder = Encoder::new(alloc, enums, ListSink::new(alloc));
     encoder.encode(conditions)?;

@@ -1,16 +1,16 @@
 //! A question to a solver, by a session that the caller holds.
-ghost use Rattle.std.specs.Prelude.{◌≡◌, IfOk, map};
+ghost use Rattle.std.specs.Prelude.{◌≡◌, IfOk};
 ghost use Rattle.kembura.specs.Honesty.{IsHonest};
 ghost use Rattle.kembura.specs.InHand.{AreNeverTrue, IsBlankLink};
 ghost use Rattle.kembura.specs.Session.{session_link, state_by};
-ghost use Rattle.kembura.specs.TermView.{plain_term};
-ghost use Rattle.kembura.specs.TypesEnums.{enums_of};
+ghost use Rattle.kembura.specs.TermView.{plain_terms};
+ghost use Rattle.kembura.specs.TermEnums.{enums_of};
 ghost use Rattle.kembura.specs.Typing.{AreBoolean};
 
 use anyhow::Result;
 use kembura::pool::ask_script;
 use kembura::terms::laws::program_terms;
-use kembura::types::laws::program_texts;
+use kembura::terms::type_laws::program_texts;
 use kembura::{Decision, Encoder, EnumTable, Link, ListSink, LocalSolver, Term};
 use std::alloc::Global;
 
@@ -27,8 +27,12 @@ pub(crate) fn decide<L: Link>(
     conditions: &[Term],
     session: &mut LocalSolver<L>,
 ) -> Result<Decision>
-    ensures believed { AreBoolean (map plain_term conditions.now) → IsHonest (L.allows (session_link session.old)) → IsBlankLink (state_by L.state session.old) →
-        IfOk result (λ decision. decision ≡ Decision.Unsat → AreNeverTrue (enums_of enums.now) (map plain_term conditions.now)) }
+    ensures believed { AreBoolean (plain_terms conditions.now) →
+        IsHonest (L.allows (session_link session.old)) →
+        IsBlankLink (state_by L.state session.old) →
+        IfOk result (λ decision.
+        decision ≡ Decision.Unsat →
+        AreNeverTrue (enums_of enums.now) (plain_terms conditions.now)) }
 {
     // What they say of the program's terms and tables is what the clause asks of the conditions.
     program_terms();

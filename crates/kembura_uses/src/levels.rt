@@ -1,10 +1,10 @@
 //! A caller that asks a question on top of a base: the terms of all open levels are what its script means.
-ghost use Rattle.std.specs.Prelude.{◌≡◌, ◌++◌, IfOk, map};
+ghost use Rattle.std.specs.Prelude.{◌≡◌, ◌++◌, IfOk};
 ghost use Rattle.kembura.specs.Headline.{Headline};
 ghost use Rattle.kembura.specs.Memory.{list_bytes};
 ghost use Rattle.kembura.specs.NameTables.{Tables};
-ghost use Rattle.kembura.specs.TermView.{plain_term};
-ghost use Rattle.kembura.specs.TypesEnums.{enums_of};
+ghost use Rattle.kembura.specs.TermView.{plain_terms};
+ghost use Rattle.kembura.specs.TermEnums.{enums_of};
 ghost use Rattle.kembura.specs.Typing.{AreBoolean};
 
 use kembura::laws::theorem::fitting::fitting_texts_are_scripts;
@@ -23,8 +23,12 @@ pub(crate) fn asked_on_top(
     first: &[Term],
     question: &[Term],
 ) -> Result<ListSink, EncodeError>
-    ensures { AreBoolean (map plain_term base.now) → AreBoolean (map plain_term first.now) → AreBoolean (map plain_term question.now) →
-        IfOk result (λ script. (names : Tables) × Headline (enums_of enums.now) names (map plain_term base.now ++ map plain_term question.now) (list_bytes script)) }
+    ensures { AreBoolean (plain_terms base.now) → AreBoolean (plain_terms first.now) →
+        AreBoolean (plain_terms question.now) →
+        IfOk result (λ script.
+        (names : Tables)
+        × Headline (enums_of enums.now) names (plain_terms base.now ++ plain_terms question.now)
+        (list_bytes script)) }
 {
     // What it says of a text that fits is what the clause says of the script.
     fitting_texts_are_scripts();

@@ -42,7 +42,7 @@ use Rattle.law_terms.proofs.Shapes.{all-become}
 use Rattle.law_terms.proofs.Sorted.{all-sorted, ascends-sorted, less-is}
 use Rattle.law_terms.proofs.TermTotal.{terms_total}
 use Rattle.law_terms.proofs.TypeOrder.{eq_same}
-use Rattle.law_assignments.specs.Entries.{assignment_of, function_of, get_of, given_by, is_faultless_leaf, is_value, pair_of, selector_named, selector_of, table_of, value_in, value_of, variable_of}
+use Rattle.law_assignments.specs.Entries.{assignment_of, assigned_function, get_of, given_by, is_faultless_leaf, is_value, pair_of, selector_named, selector_of, table_of, value_in, value_of, assigned_variable}
 use Rattle.law_assignments.specs.Outcomes.{unless_given, NoValue, UnknownEntry}
 use Rattle.law_texts.specs.Outcomes.{demanded}
 use Rattle.law_assignments.specs.Written.{WrittenInput, WrittenTable}
@@ -165,7 +165,7 @@ module _ (ds : Declared) (formed : AreDeclaredFormed ds) where
   abbrev Variables : List (List ℕ × PlainTerm) → Type 0
   Variables vs = AllByRecursion (λ e. IsValueHere (type_of e.1) e.1) vs
 
-  variable_sound : (before : List (List ℕ × PlainTerm)) (w : List ℕ × Expression) → Variables before → IfOk (variable_of ds before w) (λ v. Variables (before ++ v ∷ []))
+  variable_sound : (before : List (List ℕ × PlainTerm)) (w : List ℕ × Expression) → Variables before → IfOk (assigned_variable ds before w) (λ v. Variables (before ++ v ∷ []))
   variable_sound before w p =
       whatever (λ v. Variables (before ++ v ∷ [])) (demanded (UnknownEntry w.0) (declared ds.variables w.0)) _ (λ ty.
       whatever (λ v. Variables (before ++ v ∷ [])) (unless_given (lookup (bytes_eq w.0) before) w.0) _ (λ id.
@@ -175,7 +175,7 @@ module _ (ds : Declared) (formed : AreDeclaredFormed ds) where
   abbrev Functions : List (List ℕ × PlainDefinition) → Type 0
   Functions fs = AllByRecursion (λ e. IsSoundTable ds.enums e.1) fs
 
-  function_sound : (before : List (List ℕ × PlainDefinition)) (w : WrittenTable) → Functions before → IfOk (function_of ds before w) (λ v. Functions (before ++ v ∷ []))
+  function_sound : (before : List (List ℕ × PlainDefinition)) (w : WrittenTable) → Functions before → IfOk (assigned_function ds before w) (λ v. Functions (before ++ v ∷ []))
   function_sound before w p =
       whatever (λ v. Functions (before ++ v ∷ [])) (demanded (UnknownEntry w.name) (declared ds.functions w.name)) _ (λ f.
       whatever (λ v. Functions (before ++ v ∷ [])) (unless_given (lookup (bytes_eq w.name) before) w.name) _ (λ id.
@@ -202,8 +202,8 @@ module _ (ds : Declared) (formed : AreDeclaredFormed ds) where
 
   pub assignment_sound : (w : WrittenInput) → IfOk (assignment_of ds w) (IsSound ds.enums)
   assignment_sound w =
-      next Variables (IsSound ds.enums) (given_by (variable_of ds) [] w.variables) _ (given_so (variable_of ds) Variables variable_sound [] w.variables tt) (λ vs v.
-      next Functions (IsSound ds.enums) (given_by (function_of ds) [] w.functions) _ (given_so (function_of ds) Functions function_sound [] w.functions tt) (λ fs f.
+      next Variables (IsSound ds.enums) (given_by (assigned_variable ds) [] w.variables) _ (given_so (assigned_variable ds) Variables variable_sound [] w.variables tt) (λ vs v.
+      next Functions (IsSound ds.enums) (given_by (assigned_function ds) [] w.functions) _ (given_so (assigned_function ds) Functions function_sound [] w.functions tt) (λ fs f.
       next Gets (IsSound ds.enums) (given_by (get_of ds) [] w.gets) _ (given_so (get_of ds) Gets get_sound [] w.gets tt) (λ gs g.
       next Selectors (IsSound ds.enums) (given_by (selector_of ds) [] w.selectors) _ (given_so (selector_of ds) Selectors selector_sound [] w.selectors tt) (λ ss s.
       record { variables = v; functions = f; gets = g; selectors = s }))))

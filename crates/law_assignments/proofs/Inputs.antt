@@ -10,7 +10,7 @@ use Rattle.law_assignments.specs.Sound.{IsSound}
 use Rattle.law_assignments.proofs.Covering.{nothing_missing_is_covered}
 use Rattle.law_folding.specs.Built.{built}
 use Rattle.law_texts.specs.Reading.{Expression, Expressions}
-use Rattle.law_jobs.specs.Jobs.{PlainJob, built_job, declared_first, job_of, job_of_sections, section_of, steps_last}
+use Rattle.law_jobs.specs.Jobs.{PlainJob, built_job, declared_first, job_of, job_of_sections, section_of, steps_last, declarations_of}
 use Rattle.law_jobs.specs.Steps.{Section, current}
 use Rattle.law_jobs.specs.Laws.{IsCondition}
 use Rattle.law_jobs.proofs.FormedTypes.{AreDeclaredFormed}
@@ -19,7 +19,7 @@ use Rattle.law_jobs.proofs.Jobs.{declared_sound, one_expression, sections_sound}
 use Rattle.law_jobs.proofs.Outcomes as jobs
 use Rattle.law_jobs.proofs.Steps.{current_all, current_built}
 use Rattle.law_assignments.specs.Entries.{assignment_of}
-use Rattle.law_assignments.specs.Inputs.{IsFaultyInput, IsInput, declared_in, input_inside, input_of, unless_missing, greatest_input_nesting}
+use Rattle.law_assignments.specs.Inputs.{IsFaultyInput, IsInput, input_inside, input_of, unless_missing, greatest_input_nesting}
 use Rattle.law_assignments.specs.InputLaws.{InputsAreEvaluable, InputsAreNotRefused, IsEvaluable}
 use Rattle.law_assignments.specs.Outcomes.{InputFault, InputOutcome, of_job, FormlessInput}
 use Rattle.law_texts.specs.Outcomes.{demanded}
@@ -29,14 +29,14 @@ use Rattle.law_assignments.proofs.Steps.{both_ok, from_job, next, whatever}
 
 -- ---- the job
 
-sections_declare : (es : Expressions) → IfOk (job_of_sections es) (λ x. AreDeclaredFormed (declared_in x.1))
+sections_declare : (es : Expressions) → IfOk (job_of_sections es) (λ x. AreDeclaredFormed (declarations_of x.1))
 sections_declare es =
     jobs.bound _ (declared_first es) _ (jobs.onward (declared_first es) (declared_sound es) (λ p f.
     jobs.bound _ (steps_last p.0 p.1) _ (jobs.whichever _ (steps_last p.0 p.1) (λ x. record { variables = f.variables; functions = f.functions }))))
 
 -- what is known of a job
 abbrev IsJobHere : Section × PlainJob → Type 0
-IsJobHere x = AllByRecursion IsCondition (current x.1.steps) × AreDeclaredFormed (declared_in x.1)
+IsJobHere x = AllByRecursion IsCondition (current x.1.steps) × AreDeclaredFormed (declarations_of x.1)
 
 current_conditions : (es : Expressions) → IfOk (job_of_sections es) (λ x. AllByRecursion IsCondition (current x.1.steps))
 current_conditions es = jobs.onward (job_of_sections es) (sections_sound es) (λ x s. current_all IsCondition [] [] x.1.steps tt tt s.0)
@@ -44,7 +44,7 @@ current_conditions es = jobs.onward (job_of_sections es) (sections_sound es) (λ
 job_known : (e : Expression) → IfOk (job_of e) IsJobHere
 job_known e =
     jobs.bound IsJobHere (section_of (codes "job") e) job_of_sections (jobs.whichever _ (section_of (codes "job") e) (λ es.
-    both_ok (λ x. AllByRecursion IsCondition (current x.1.steps)) (λ x. AreDeclaredFormed (declared_in x.1)) (job_of_sections es) (current_conditions es) (sections_declare es)))
+    both_ok (λ x. AllByRecursion IsCondition (current x.1.steps)) (λ x. AreDeclaredFormed (declarations_of x.1)) (job_of_sections es) (current_conditions es) (sections_declare es)))
 
 -- ---- the input
 
@@ -67,7 +67,7 @@ evaluable job a s covers c = record {
 input_known : (w : WrittenInput) → IfOk (input_inside w) IsEvaluablePair
 input_known w =
     next IsJobHere IsEvaluablePair (of_job (job_of w.job)) _ (from_job IsJobHere (job_of w.job) (job_known w.job)) (λ x h.
-    next (IsSound x.1.enums) IsEvaluablePair (assignment_of (declared_in x.1) w) _ (assignment_sound (declared_in x.1) h.1 w) (λ a s.
+    next (IsSound x.1.enums) IsEvaluablePair (assignment_of (declarations_of x.1) w) _ (assignment_sound (declarations_of x.1) h.1 w) (λ a s.
     next (λ u. first_missing a (map built (current x.1.steps)) ≡ None) IsEvaluablePair (unless_missing (first_missing a (map built (current x.1.steps)))) _ (nothing_missing (first_missing a (map built (current x.1.steps)))) (λ u m.
     evaluable x.1 a s ((nothing_missing_is_covered a (map built (current x.1.steps))).0 m) h.0)))
 

@@ -6,7 +6,8 @@ use Rattle.law_terms.specs.Defaults.{default_interpretation}
 use Rattle.law_terms.specs.Functions.{PlainDefinition, table_of}
 use Rattle.law_terms.specs.Interpretations.{empty_table, selector_eq, unused_value}
 use Rattle.law_terms.specs.Meaning.{term_value}
-use Rattle.law_terms.specs.Plain.{PlainType, PlainFunction, ExtensionOp, IpAddrV4Op, IpAddrV6Op, IpPrefixV4Op, IpPrefixV6Op, Ipv4Of, Ipv6Of, ExtensionLiteral, PlainTerm, LiteralTerm}
+use Rattle.law_terms.specs.Plain.{PlainType, PlainFunction, ExtensionOp, IpAddrV4Op, IpAddrV6Op, IpPrefixV4Op, IpPrefixV6Op, Ipv4Of, Ipv6Of}
+use Rattle.law_terms.specs.Plain.{ExtensionLiteral, PlainTerm, LiteralTerm}
 use Rattle.law_terms.specs.Tables.{Interpretation, Table}
 use Rattle.law_terms.specs.Types.{type_eq}
 use Rattle.law_terms.specs.Values.{Value}

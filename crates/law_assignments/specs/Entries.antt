@@ -16,7 +16,8 @@ use Rattle.law_terms.specs.Functions.{PlainDefinition}
 use Rattle.law_terms.specs.Interpretations.{selector_eq}
 use Rattle.law_terms.specs.Literals.{is_literal}
 use Rattle.law_terms.specs.Names.{extension_op_name, op_name}
-use Rattle.law_terms.specs.Plain.{IpAddrKind, PlainType, ExtensionType, ExtensionOp, IpAddrV4Op, IpAddrV6Op, IpPrefixV4Op, IpPrefixV6Op, OptionGetOp, PlainTerm, LiteralTerm}
+use Rattle.law_terms.specs.Plain.{IpAddrKind, PlainType, ExtensionType, ExtensionOp, IpAddrV4Op, IpAddrV6Op, IpPrefixV4Op, IpPrefixV6Op}
+use Rattle.law_terms.specs.Plain.{OptionGetOp, PlainTerm, LiteralTerm}
 use Rattle.law_terms.specs.Reached.{subterms}
 use Rattle.law_terms.specs.TermOrder.{term_cmp, term_eq}
 use Rattle.law_terms.specs.Types.{extension_signature, type_eq, type_of}
@@ -47,16 +48,19 @@ selector_named n = lookup (bytes_eq n) (map (λ o. (extension_op_name o, o)) (Ip
 module _ (ds : Declared) where
   -- the value that an expression states: its term, as it is built, where that is a value of the type and passes a test
   abbrev pub value_in : PlainType → (PlainTerm → Bool) → Expression → Option PlainTerm
-  value_in ty test e = option_and_then (λ t. then_some (is_value ds.enums ty (built t) && test (built t)) (built t)) (result_ok (term_of ds e))
+  value_in ty test e =
+      option_and_then (λ t. then_some (is_value ds.enums ty (built t) && test (built t)) (built t)) (result_ok (term_of ds e))
 
   -- the value of a type that an expression states in the entry of a name, or the fault that it states none
   abbrev pub value_of : (name : List ℕ) → PlainType → Expression → InputOutcome PlainTerm
   value_of name ty e = demanded (NoValue name) (value_in ty (λ t. true) e)
 
   -- a key and its value, where no key is given twice
-  abbrev pub pair_of : (name : List ℕ) → (argument output : PlainType) → (PlainTerm → Bool) → List (PlainTerm × PlainTerm) → Expression × Expression → InputOutcome (PlainTerm × PlainTerm)
+  abbrev pub pair_of : (name : List ℕ) → (argument output : PlainType) → (PlainTerm → Bool) → List (PlainTerm × PlainTerm) →
+      Expression × Expression → InputOutcome (PlainTerm × PlainTerm)
   pair_of name argument output test before w =
-      demanded (NoValue name) (value_in argument test w.0) >>= λ k. unless_given (lookup (term_eq k) before) name >>= λ n. value_of name output w.1 >>= λ v. Ok (k, v)
+      demanded (NoValue name) (value_in argument test w.0) >>=
+      λ k. unless_given (lookup (term_eq k) before) name >>= λ n. value_of name output w.1 >>= λ v. Ok (k, v)
 
   -- a table whose keys pass a test, with its pairs in the order of their keys
   abbrev pub table_of : (argument output : PlainType) → (PlainTerm → Bool) → WrittenTable → InputOutcome PlainDefinition
@@ -65,13 +69,17 @@ module _ (ds : Declared) where
       Ok (record { argument = argument; output = output; entries = sorted (λ p q. term_cmp p.0 q.0) es; elsewhere = d })
 
   -- the value of a variable of the job, which must have none yet
-  abbrev pub variable_of : List (List ℕ × PlainTerm) → List ℕ × Expression → InputOutcome (List ℕ × PlainTerm)
-  variable_of before w = demanded (UnknownEntry w.0) (declared ds.variables w.0) >>= λ ty. unless_given (lookup (bytes_eq w.0) before) w.0 >>= λ id. value_of id ty w.1 >>= λ v. Ok (id, v)
+  abbrev pub assigned_variable : List (List ℕ × PlainTerm) → List ℕ × Expression → InputOutcome (List ℕ × PlainTerm)
+  assigned_variable before w =
+      demanded (UnknownEntry w.0) (declared ds.variables w.0) >>=
+      λ ty. unless_given (lookup (bytes_eq w.0) before) w.0 >>= λ id. value_of id ty w.1 >>= λ v. Ok (id, v)
 
   -- the table of a function of the job, which must have none yet, with the function's types
-  abbrev pub function_of : List (List ℕ × PlainDefinition) → WrittenTable → InputOutcome (List ℕ × PlainDefinition)
-  function_of before w =
-      demanded (UnknownEntry w.name) (declared ds.functions w.name) >>= λ f. unless_given (lookup (bytes_eq w.name) before) w.name >>= λ id. table_of f.argument f.output (λ k. true) w >>= λ d. Ok (id, d)
+  abbrev pub assigned_function : List (List ℕ × PlainDefinition) → WrittenTable → InputOutcome (List ℕ × PlainDefinition)
+  assigned_function before w =
+      demanded (UnknownEntry w.name) (declared ds.functions w.name) >>=
+      λ f.
+      unless_given (lookup (bytes_eq w.name) before) w.name >>= λ id. table_of f.argument f.output (λ k. true) w >>= λ d. Ok (id, d)
 
   -- what `option.get` of none gives at an inner type, which must have nothing yet
   abbrev pub get_of : List (PlainType × PlainTerm) → PlainType × Expression → InputOutcome (PlainType × PlainTerm)
@@ -86,5 +94,7 @@ module _ (ds : Declared) where
   -- the assignment that an input states for what a job declares: its variables, functions, inner types and selectors, in this order
   abbrev pub assignment_of : WrittenInput → InputOutcome PlainAssignment
   assignment_of w =
-      given_by variable_of [] w.variables >>= λ vs. given_by function_of [] w.functions >>= λ fs. given_by get_of [] w.gets >>= λ gs. given_by selector_of [] w.selectors >>= λ ss.
+      given_by assigned_variable [] w.variables >>=
+      λ vs.
+      given_by assigned_function [] w.functions >>= λ fs. given_by get_of [] w.gets >>= λ gs. given_by selector_of [] w.selectors >>= λ ss.
       Ok (record { variables = vs; functions = fs; gets = gs; selectors = ss })

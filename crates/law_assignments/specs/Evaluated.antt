@@ -10,12 +10,15 @@ use Rattle.law_folding.specs.FoldBits.{folded_bits, takes_right}
 use Rattle.law_folding.specs.FoldExtensions.{folded_extension}
 use Rattle.law_folding.specs.FoldFunctions.{entry_at, uuf_of}
 use Rattle.law_folding.specs.FoldOptions.{folded_option_get}
-use Rattle.law_terms.specs.Plain.{PlainType, ExtensionOp, PlainOp, BitsOp, ExtOp, OptionGetOp, UufOp, BitVecLiteral, PlainTerm, Application, NoneTerm, LiteralTerm, RecordTerm, SetTerm, SomeTerm, VariableTerm, PlainTerms, no_terms, one_term, PlainFields, no_fields, one_field}
+use Rattle.law_terms.specs.Plain.{PlainType, ExtensionOp, PlainOp, BitsOp, ExtOp, OptionGetOp, UufOp, BitVecLiteral, PlainTerm, Application}
+use Rattle.law_terms.specs.Plain.{NoneTerm, LiteralTerm, RecordTerm, SetTerm, SomeTerm, VariableTerm, PlainTerms, no_terms, one_term}
+use Rattle.law_terms.specs.Plain.{PlainFields, no_fields, one_field}
 use Rattle.law_terms.specs.TermSets.{set_term}
 
 -- an operator from bits to bits: as it folds, and a shift by more places than the folding takes leaves no bit
 abbrev pub evaluated_bits : BitsOperator → PlainTerm → PlainTerm → PlainTerm
-evaluated_bits o (LiteralTerm (BitVecLiteral n x)) (LiteralTerm (BitVecLiteral m y)) = cond (takes_right o y) (folded_bits o (bits_literal n x) (bits_literal m y)) (bits_literal n 0)
+evaluated_bits o (LiteralTerm (BitVecLiteral n x)) (LiteralTerm (BitVecLiteral m y)) =
+    cond (takes_right o y) (folded_bits o (bits_literal n x) (bits_literal m y)) (bits_literal n 0)
 evaluated_bits o t u = folded_bits o t u
 
 module _ (a : PlainAssignment) where
@@ -26,7 +29,8 @@ module _ (a : PlainAssignment) where
 
   -- an operator of the extension types: a selector at a range of the other family by the assignment, and else as it folds
   abbrev pub evaluated_extension : ExtensionOp → PlainTerm → PlainTerm
-  evaluated_extension o t = cond (is_of_other_family o t) (option_map_or (λ d. entry_at d t) (selector_in a o) (extension_of o t)) (folded_extension o t)
+  evaluated_extension o t =
+      cond (is_of_other_family o t) (option_map_or (λ d. entry_at d t) (selector_in a o) (extension_of o t)) (folded_extension o t)
 
   -- An operator at arguments that are evaluated, with the type that was claimed: a function by the assignment's table, and all else as
   -- above or as it folds.

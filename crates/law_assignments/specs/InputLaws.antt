@@ -25,4 +25,5 @@ InputsAreEvaluable = (bytes : List ℕ) (job : PlainJob) (a : PlainAssignment) �
 -- Bytes are one input at most, and an input has no fault. So it is refused for want of memory alone.
 pub record InputsAreNotRefused : Type 0 where
   pub one : (bytes : List ℕ) (j k : PlainJob) (a b : PlainAssignment) → IsInput bytes j a → IsInput bytes k b → (j ≡ k) × (a ≡ b)
-  pub sound : (bytes : List ℕ) (job : PlainJob) (a : PlainAssignment) (fault : InputFault) → IsInput bytes job a → IsFaultyInput bytes fault → ⊥
+  pub sound : (bytes : List ℕ) (job : PlainJob) (a : PlainAssignment) (fault : InputFault) → IsInput bytes job a →
+      IsFaultyInput bytes fault → ⊥

@@ -59,7 +59,8 @@ abbrev pub job_with : List Expression → Expression
 job_with terms =
     headed (codes "job")
     (headed (codes "enums") (group (text (codes "Color") ∷ text (codes "red") ∷ []) ∷ [])
-    ∷ headed (codes "vars") (group (text (codes "b") ∷ bool ∷ []) ∷ group (text (codes "c") ∷ headed (codes "Entity") (text (codes "Color") ∷ []) ∷ []) ∷ [])
+    ∷ headed (codes "vars")
+    (group (text (codes "b") ∷ bool ∷ []) ∷ group (text (codes "c") ∷ headed (codes "Entity") (text (codes "Color") ∷ []) ∷ []) ∷ [])
     ∷ headed (codes "funs") (group (text (codes "f") ∷ bool ∷ bool ∷ []) ∷ [])
     ∷ headed (codes "terms") terms ∷ [])
 
@@ -73,7 +74,9 @@ job = job_with (headed (codes "not") (variable_b ∷ []) ∷ headed (codes "uuf"
 
 -- an input by its job and the entries of its four sections
 abbrev pub input : Expression → (vars funs gets selectors : List Expression) → Expression
-input job vars funs gets selectors = headed (codes "eval") (job ∷ headed (codes "vars") vars ∷ headed (codes "funs") funs ∷ headed (codes "gets") gets ∷ headed (codes "selectors") selectors ∷ [])
+input job vars funs gets selectors =
+    headed (codes "eval")
+    (job ∷ headed (codes "vars") vars ∷ headed (codes "funs") funs ∷ headed (codes "gets") gets ∷ headed (codes "selectors") selectors ∷ [])
 
 -- an entry by its name and what stands behind it
 abbrev pub entry : List ℕ → List Expression → Expression
@@ -120,7 +123,12 @@ read_job = record {
 abbrev pub read_assignment : PlainAssignment
 read_assignment = record {
   variables = (codes "b", false_term) ∷ [];
-  functions = (codes "f", record { argument = BoolType; output = BoolType; entries = (false_term, true_term) ∷ (true_term, false_term) ∷ []; elsewhere = true_term }) ∷ [];
+  functions = (
+    codes "f",
+    record
+        { argument = BoolType; output = BoolType; entries = (false_term, true_term) ∷ (true_term, false_term) ∷ []; elsewhere = true_term },
+  )
+      ∷ [];
   gets = (BoolType, true_term) ∷ [];
   selectors = [];
 }
@@ -128,18 +136,25 @@ read_assignment = record {
 -- an input with what it states, and inputs with their first faults
 pub record InputRows : Type 0 where
   -- a value may be any term that builds to a literal; pairs come into the order of their keys
-  pub read : input_of (input job (b_is (headed (codes "not") (yes ∷ [])) ∷ []) (f_is (yes ∷ pair yes no ∷ pair no yes ∷ []) ∷ []) (pair bool yes ∷ []) []) ≡ Ok (read_job, read_assignment)
+  pub read :
+      input_of
+      (input job (b_is (headed (codes "not") (yes ∷ [])) ∷ []) (f_is (yes ∷ pair yes no ∷ pair no yes ∷ []) ∷ []) (pair bool yes ∷ []) [])
+      ≡ Ok (read_job, read_assignment)
   -- a section too few, and the type of a get that is none, before the faults of the job
   pub sections : result_err (input_of (headed (codes "eval") (job ∷ []))) ≡ Some FormlessInput
   pub get_type : result_err (input_of (input yes [] [] (pair (word (codes "Boolean")) yes ∷ []) [])) ≡ Some FormlessInput
   -- the job, before the entries
-  pub refused : result_err (input_of (input (job_with (text (codes "no truth") ∷ [])) (entry (codes "z") (yes ∷ []) ∷ []) [] [] [])) ≡ Some (RefusedJob TruthFault)
+  pub refused :
+      result_err (input_of (input (job_with (text (codes "no truth") ∷ [])) (entry (codes "z") (yes ∷ []) ∷ []) [] [] []))
+      ≡ Some (RefusedJob TruthFault)
   pub unknown_variable : fault_in (entry (codes "z") (yes ∷ []) ∷ []) [] [] [] ≡ Some (UnknownEntry (codes "z"))
   pub unknown_function : fault_in [] (entry (codes "b") (yes ∷ []) ∷ []) [] [] ≡ Some (UnknownEntry (codes "b"))
   pub unknown_selector : fault_in [] [] [] (entry (codes "ipaddr.isV4") (yes ∷ []) ∷ []) ≡ Some (UnknownEntry (codes "ipaddr.isV4"))
   pub variable_twice : fault_in (b_is yes ∷ b_is (text []) ∷ []) [] [] [] ≡ Some (DuplicateEntry (codes "b"))
   pub get_twice : fault_in [] [] (pair bool yes ∷ pair bool no ∷ []) [] ≡ Some (DuplicateEntry (codes "option.get"))
-  pub key_twice : fault_in [] (f_is (yes ∷ pair no yes ∷ pair (headed (codes "not") (yes ∷ [])) (text []) ∷ []) ∷ []) [] [] ≡ Some (DuplicateEntry (codes "f"))
+  pub key_twice :
+      fault_in [] (f_is (yes ∷ pair no yes ∷ pair (headed (codes "not") (yes ∷ [])) (text []) ∷ []) ∷ []) [] []
+      ≡ Some (DuplicateEntry (codes "f"))
   -- a literal of another type, a term that builds to no literal, and an entity that is no member
   pub other_type : fault_in (b_is (text []) ∷ []) [] [] [] ≡ Some (NoValue (codes "b"))
   pub no_literal : fault_in (b_is variable_b ∷ []) [] [] [] ≡ Some (NoValue (codes "b"))
@@ -148,4 +163,5 @@ pub record InputRows : Type 0 where
   pub own_family : fault_in [] [] [] (addresses (pair host_v4 (bits_32 1) ∷ []) ∷ []) ≡ Some (NoValue (codes "ipaddr.addrV4"))
   -- the first that the terms reach and that has no entry, behind all faults of entries
   pub missing : fault_in [] (f_is (yes ∷ []) ∷ []) [] [] ≡ Some (MissingEntry (codes "b"))
-  pub missing_function : fault_in (b_is yes ∷ c_is (codes "red") ∷ []) [] [] (addresses (pair all_v6 (bits_32 1) ∷ []) ∷ []) ≡ Some (MissingEntry (codes "f"))
+  pub missing_function :
+      fault_in (b_is yes ∷ c_is (codes "red") ∷ []) [] [] (addresses (pair all_v6 (bits_32 1) ∷ []) ∷ []) ≡ Some (MissingEntry (codes "f"))

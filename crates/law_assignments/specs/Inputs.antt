@@ -6,17 +6,12 @@ use Rattle.law_assignments.specs.Covered.{first_missing}
 use Rattle.law_folding.specs.Built.{built}
 use Rattle.law_texts.specs.Reading.{Expression}
 use Rattle.law_texts.specs.Tokens.{IsReadWithin}
-use Rattle.law_jobs.specs.Declarations.{Declared}
-use Rattle.law_jobs.specs.Jobs.{PlainJob, built_job, greatest_length, job_of}
+use Rattle.law_jobs.specs.Jobs.{PlainJob, built_job, greatest_length, job_of, declarations_of}
 use Rattle.law_jobs.specs.Steps.{current}
 use Rattle.law_assignments.specs.Entries.{assignment_of}
 use Rattle.law_assignments.specs.Outcomes.{InputFault, InputOutcome, of_job, FormlessInput, MissingEntry}
 use Rattle.law_texts.specs.Outcomes.{◌>>=◌, demanded}
 use Rattle.law_assignments.specs.Written.{WrittenInput, input_written}
-
--- what a job declares
-abbrev pub declared_in : PlainJob → Declared
-declared_in job = record { enums = job.enums; variables = job.variables; functions = job.functions }
 
 -- nothing is missing, or else the fault of the first that is
 abbrev pub unless_missing : Option (List ℕ) → InputOutcome ⊤
@@ -26,7 +21,10 @@ unless_missing None = Ok tt
 -- the job and the assignment of an input as it is written, which has to give all that the job's built terms reach that are current at its
 -- end
 abbrev pub input_inside : WrittenInput → InputOutcome (PlainJob × PlainAssignment)
-input_inside w = of_job (job_of w.job) >>= λ x. assignment_of (declared_in x.1) w >>= λ a. unless_missing (first_missing a (map built (current x.1.steps))) >>= λ u. Ok (x.1, a)
+input_inside w =
+    of_job (job_of w.job) >>=
+    λ x.
+    assignment_of (declarations_of x.1) w >>= λ a. unless_missing (first_missing a (map built (current x.1.steps))) >>= λ u. Ok (x.1, a)
 
 -- The job and the assignment that an expression states, or its first fault: the form of the whole first, then the job, then the
 -- entries from the left, and then whether they give all that is reached.

@@ -19,10 +19,14 @@ use Rattle.law_scripts.specs.Value.{IsModel}
 
 -- What terms reach of an interpretation of them is one too.
 abbrev pub RestrictionsAreInterpretations : Type 0
-RestrictionsAreInterpretations = (enums : Enums) (ts : List PlainTerm) (I : Interpretation) → IsInterpretation enums ts I → IsInterpretation enums ts (restrict I ts)
+RestrictionsAreInterpretations =
+    (enums : Enums) (ts : List PlainTerm) (I : Interpretation) → IsInterpretation enums ts I → IsInterpretation enums ts (restrict I ts)
 
 -- Where bytes are the script of terms, these all evaluate to true exactly where what they reach of the assignment's
 -- interpretation, carried over, is a model of the script.
 abbrev pub HoldsMeansModel : Type 0
-HoldsMeansModel = (enums : Enums) (s : Tables) (a : PlainAssignment) (ts : List PlainTerm) (bytes : List ℕ) (script : Headline enums s ts bytes) → IsSound enums a → Covers a ts → AreBoolean ts → AllByRecursion IsFormed ts
-    → AllByRecursion (λ t. evaluated a t ≡ true_term) ts ↔ IsModel (carry_interpretation enums s (restrict (interpretation a) ts)) script.state
+HoldsMeansModel =
+    (enums : Enums) (s : Tables) (a : PlainAssignment) (ts : List PlainTerm) (bytes : List ℕ) (script : Headline enums s ts bytes) →
+    IsSound enums a → Covers a ts → AreBoolean ts → AllByRecursion IsFormed ts
+    → AllByRecursion (λ t. evaluated a t ≡ true_term) ts
+    ↔ IsModel (carry_interpretation enums s (restrict (interpretation a) ts)) script.state

@@ -5,11 +5,14 @@ use Rattle.law_assignments.specs.Assignments.{PlainAssignment}
 use Rattle.law_assignments.specs.Covered.{first_missing}
 use Rattle.law_assignments.specs.Evaluated.{evaluated}
 use Rattle.law_assignments.specs.Sound.{IsSound}
-use Rattle.law_folding.specs.Applications.{bits_literal, bits_of_two, eq_of, extension_of, false_term, ite_of, not_of, option_get_of, record_get_of, set_member_of, test_of_two, true_term}
+use Rattle.law_folding.specs.Applications.{bits_literal, bits_of_two, eq_of, extension_of, false_term, ite_of, not_of, option_get_of}
+use Rattle.law_folding.specs.Applications.{record_get_of, set_member_of, test_of_two, true_term}
 use Rattle.law_folding.specs.FoldExtensions.{extension_literal}
 use Rattle.law_folding.specs.FoldFunctions.{uuf_of}
 use Rattle.law_terms.specs.Functions.{PlainDefinition}
-use Rattle.law_terms.specs.Plain.{IpAddrKind, BitVecType, BoolType, ExtensionType, StringType, PlainFunction, IpAddrV4Op, IpPrefixV4Op, Ipv4Of, Ipv6Of, PlainTerm, NoneTerm, RecordTerm, SetTerm, SomeTerm, VariableTerm, BitsOp, TestOp, no_fields, one_field, terms}
+use Rattle.law_terms.specs.Plain.{IpAddrKind, BitVecType, BoolType, ExtensionType, StringType, PlainFunction, IpAddrV4Op, IpPrefixV4Op}
+use Rattle.law_terms.specs.Plain.{Ipv4Of, Ipv6Of, PlainTerm, NoneTerm, RecordTerm, SetTerm, SomeTerm, VariableTerm, BitsOp, TestOp}
+use Rattle.law_terms.specs.Plain.{no_fields, one_field, terms}
 use Rattle.law_terms.specs.TermSets.{set_term}
 
 -- a number as a literal of 8 bits
@@ -42,7 +45,13 @@ host_v4 = extension_literal (Ipv4Of 16909060 None)
 
 -- the table of a selector for addresses of version 4: 7 at the range of all addresses of version 6, and elsewhere 5
 abbrev pub address_of_others : PlainDefinition
-address_of_others = record { argument = ExtensionType IpAddrKind; output = BitVecType 32; entries = (all_v6, bits_literal 32 7) ∷ []; elsewhere = bits_literal 32 5 }
+address_of_others =
+    record {
+      argument = ExtensionType IpAddrKind;
+      output = BitVecType 32;
+      entries = (all_v6, bits_literal 32 7) ∷ [];
+      elsewhere = bits_literal 32 5;
+    }
 
 -- an assignment that gives a value of each kind
 abbrev pub given : PlainAssignment
@@ -61,16 +70,25 @@ none_given = record { variables = []; functions = []; gets = []; selectors = [] 
 pub record EvaluationRows : Type 0 where
   pub negated : evaluated given (not_of b) ≡ true_term
   -- a remainder by zero, and a signed comparison
-  pub bits : map (evaluated given) (eq_of (bits_of_two (BitsOp BvuremOp) x (byte 0)) x ∷ test_of_two (TestOp BvsltOp) x (byte 0) ∷ []) ≡ true_term ∷ false_term ∷ []
+  pub bits :
+      map (evaluated given) (eq_of (bits_of_two (BitsOp BvuremOp) x (byte 0)) x ∷ test_of_two (TestOp BvsltOp) x (byte 0) ∷ [])
+      ≡ true_term ∷ false_term ∷ []
   -- shifts by 2 to the 40
-  pub far : map (evaluated given) (map (λ o. bits_of_two (BitsOp o) (bits_literal 64 1) (bits_literal 64 1099511627776)) (BvshlOp ∷ BvlshrOp ∷ [])) ≡ bits_literal 64 0 ∷ bits_literal 64 0 ∷ []
+  pub far :
+      map (evaluated given)
+      (map (λ o. bits_of_two (BitsOp o) (bits_literal 64 1) (bits_literal 64 1099511627776)) (BvshlOp ∷ BvlshrOp ∷ []))
+      ≡ bits_literal 64 0 ∷ bits_literal 64 0 ∷ []
   pub functions : map (evaluated given) (uuf_of f x ∷ uuf_of f (byte 1) ∷ []) ≡ byte 9 ∷ byte 0 ∷ []
   pub options : map (evaluated given) (option_get_of (NoneTerm BoolType) ∷ option_get_of (SomeTerm b) ∷ []) ≡ true_term ∷ false_term ∷ []
   -- at the other family by the table, and at its own by the address
-  pub selectors : map (λ t. evaluated given (extension_of IpAddrV4Op t)) (all_v6 ∷ extension_literal (Ipv6Of 1 None) ∷ host_v4 ∷ []) ≡ bits_literal 32 7 ∷ bits_literal 32 5 ∷ bits_literal 32 16909060 ∷ []
+  pub selectors :
+      map (λ t. evaluated given (extension_of IpAddrV4Op t)) (all_v6 ∷ extension_literal (Ipv6Of 1 None) ∷ host_v4 ∷ [])
+      ≡ bits_literal 32 7 ∷ bits_literal 32 5 ∷ bits_literal 32 16909060 ∷ []
   pub prefix : evaluated given (extension_of IpPrefixV4Op host_v4) ≡ NoneTerm (BitVecType 5)
   -- two terms of one value are one element
-  pub sets : map (evaluated given) (set_term (BitVecType 8) (x ∷ byte 127 ∷ []) ∷ set_member_of x (set_term (BitVecType 8) (x ∷ byte 1 ∷ [])) ∷ []) ≡ SetTerm (BitVecType 8) (terms (byte 127 ∷ [])) ∷ true_term ∷ []
+  pub sets :
+      map (evaluated given) (set_term (BitVecType 8) (x ∷ byte 127 ∷ []) ∷ set_member_of x (set_term (BitVecType 8) (x ∷ byte 1 ∷ [])) ∷ [])
+      ≡ SetTerm (BitVecType 8) (terms (byte 127 ∷ [])) ∷ true_term ∷ []
   pub records : evaluated given (record_get_of (RecordTerm (one_field (codes "a") x no_fields)) (codes "a")) ≡ byte 127
   pub chosen : evaluated given (ite_of b x (byte 3)) ≡ byte 3
 
@@ -93,4 +111,7 @@ GivenIsSound = IsSound [] given
 
 -- An assignment whose value of `option.get` is of another type is not sound, nor one with a key of the selector's own family.
 abbrev pub OthersAreNotSound : Type 0
-OthersAreNotSound = (IsSound [] (record none_given { gets = (BoolType, byte 0) ∷ [] }) → ⊥) × (IsSound [] (record none_given { selectors = (IpAddrV4Op, record address_of_others { entries = (host_v4, bits_literal 32 7) ∷ [] }) ∷ [] }) → ⊥)
+OthersAreNotSound =
+    (IsSound [] (record none_given { gets = (BoolType, byte 0) ∷ [] }) → ⊥)
+    × (IsSound []
+    (record none_given { selectors = (IpAddrV4Op, record address_of_others { entries = (host_v4, bits_literal 32 7) ∷ [] }) ∷ [] }) → ⊥)

@@ -5,7 +5,7 @@ use Rattle.std.specs.Prelude.{ℕ, codes, List, [], ◌∷◌, Option, Some, Non
 use Rattle.std.specs.Option.{option_and_then}
 use Rattle.std.specs.Result.{result_ok}
 use Rattle.law_texts.specs.Reading.{Expression, Expressions, Nil, Cons}
-use Rattle.law_jobs.specs.Parts.{inside_of, pair_in, section, text_in}
+use Rattle.law_texts.specs.Parts.{inside_of, pair_in, section, text_in}
 use Rattle.law_jobs.specs.Types.{type_of_expression}
 use Rattle.law_terms.specs.Plain.{PlainType}
 
@@ -38,7 +38,9 @@ get_written e = option_and_then (λ p. option_map (λ t. (t, p.1)) (result_ok (t
 
 -- what stands in the brackets of a table: `"f" V (V V) ..`
 abbrev pub table_inside : Expressions → Option WrittenTable
-table_inside (Cons name (Cons elsewhere entries)) = option_and_then (λ n. option_map (λ es. record { name = n; elsewhere = elsewhere; entries = es }) (each_in pair_in entries)) (text_in name)
+table_inside (Cons name (Cons elsewhere entries)) =
+    option_and_then (λ n. option_map (λ es. record { name = n; elsewhere = elsewhere; entries = es }) (each_in pair_in entries))
+    (text_in name)
 table_inside es = None
 
 -- the entry of a function or a selector: `("f" V (V V) ..)`
@@ -52,8 +54,14 @@ entries_in head of e = option_and_then (each_in of) (section head e)
 -- the job and the four sections of an input, in this order and each of them there
 abbrev pub sections_written : Expressions → Option WrittenInput
 sections_written (Cons job (Cons variables (Cons functions (Cons gets (Cons selectors Nil))))) =
-    option_and_then (λ vs. option_and_then (λ fs. option_and_then (λ gs. option_map (λ ss. record { job = job; variables = vs; functions = fs; gets = gs; selectors = ss })
-    (entries_in (codes "selectors") table_written selectors)) (entries_in (codes "gets") get_written gets)) (entries_in (codes "funs") table_written functions)) (entries_in (codes "vars") variable_written variables)
+    option_and_then (λ vs.
+    option_and_then (λ fs.
+    option_and_then (λ gs.
+    option_map (λ ss. record { job = job; variables = vs; functions = fs; gets = gs; selectors = ss })
+    (entries_in (codes "selectors") table_written selectors))
+    (entries_in (codes "gets") get_written gets))
+    (entries_in (codes "funs") table_written functions))
+    (entries_in (codes "vars") variable_written variables)
 sections_written es = None
 
 -- the input that `(eval JOB (vars ..) (funs ..) (gets ..) (selectors ..))` is

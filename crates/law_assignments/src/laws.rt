@@ -1,7 +1,11 @@
 //! Laws of assignments, as interpretations and as models, of evaluation and of inputs, proved with no code.
 ghost use Rattle.law_assignments.specs.Covered.{NothingMissingIsCovered};
-ghost use Rattle.law_assignments.specs.Laws.{CoveredIsInterpretation, EachIsCovered, EvaluatedIsTheValue, OneLiteralHasTheValue, TrueInAllIsEvaluated, TruthIsEvaluated, TruthOfTheBuiltIsOfTheWritten};
-ghost use Rattle.law_assignments.specs.Rows.{EvaluationRows, GivenIsSound, MissingRows, OthersAreNotSound};
+ghost use Rattle.law_assignments.specs.Laws.{CoveredIsInterpretation, EachIsCovered};
+ghost use Rattle.law_assignments.specs.Laws.{EvaluatedIsTheValue, OneLiteralHasTheValue};
+ghost use Rattle.law_assignments.specs.Laws.{TrueInAllIsEvaluated, TruthIsEvaluated};
+ghost use Rattle.law_assignments.specs.Laws.{TruthOfTheBuiltIsOfTheWritten};
+ghost use Rattle.law_assignments.specs.Rows.{EvaluationRows, GivenIsSound, MissingRows};
+ghost use Rattle.law_assignments.specs.Rows.{OthersAreNotSound};
 ghost use Rattle.law_assignments.specs.Models.{HoldsMeansModel, RestrictionsAreInterpretations};
 ghost use Rattle.law_assignments.specs.InputLaws.{InputsAreEvaluable, InputsAreNotRefused};
 ghost use Rattle.law_assignments.specs.InputRows.{InputRows};

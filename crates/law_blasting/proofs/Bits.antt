@@ -6,7 +6,7 @@ use Rattle.std.proofs.Math.Pow.{pow_pos}
 use Rattle.std.proofs.Math.Arith.{mod-mul}
 use Rattle.std.proofs.lemmas.Bool.{and_from, and_parts}
 use Rattle.std.proofs.lemmas.Bool.Decides.{Decides-eqb, same_from_decides}
-use Rattle.law_blasting.specs.Circuits.{truths, weight, number, number_bits, equal}
+use Rattle.law_blasting.specs.Circuits.{truth_gates, weight, number, number_bits, equal}
 use Rattle.law_blasting.specs.CircuitLaws.{NumbersAreCompared, NumbersHaveBits, BitsHaveNumbers, ExtensionsKeep}
 use Rattle.law_blasting.proofs.Sums.{weight_small}
 use Rattle.law_blasting.proofs.Shifts.{number_padded}
@@ -65,7 +65,7 @@ bit_itself false false e = refl
 bit_itself true false e = cc
 bit_itself false true e = cc
 
-pub equal_decides : (xs ys : List Bool) → length xs ≡ length ys → Decides (equal truths xs ys) (number xs ≡ number ys)
+pub equal_decides : (xs ys : List Bool) → length xs ≡ length ys → Decides (equal truth_gates xs ys) (number xs ≡ number ys)
 equal_decides [] [] e = (λ h. refl, λ h. refl)
 equal_decides [] (y ∷ ys) e = absurd (omega (arith, e))
 equal_decides (x ∷ xs) [] e = absurd (omega (arith, e))
@@ -73,12 +73,12 @@ equal_decides (x ∷ []) (y ∷ []) e = (λ h. ap (λ b. weight b + 2 * 0) (same
 equal_decides (x ∷ []) (y ∷ (w ∷ ys)) e = absurd (omega (arith, e))
 equal_decides (x ∷ (z ∷ xs)) (y ∷ ys) e =
     let d = equal_decides (z ∷ xs) ys (omega (arith, e)) in (
-      λ h. let p = and_parts (beq x y) (equal truths (z ∷ xs) ys) h in ap (λ b. weight b + 2 * number (z ∷ xs)) (same_bit x y p.0) ∙ ap (λ n. weight y + 2 * n) (d.0 p.1),
-      λ h. let p = first_number x y (number (z ∷ xs)) (number ys) h in and_from (beq x y) (equal truths (z ∷ xs) ys) (bit_itself x y p.0) (d.1 p.1),
+      λ h. let p = and_parts (beq x y) (equal truth_gates (z ∷ xs) ys) h in ap (λ b. weight b + 2 * number (z ∷ xs)) (same_bit x y p.0) ∙ ap (λ n. weight y + 2 * n) (d.0 p.1),
+      λ h. let p = first_number x y (number (z ∷ xs)) (number ys) h in and_from (beq x y) (equal truth_gates (z ∷ xs) ys) (bit_itself x y p.0) (d.1 p.1),
     )
 
 pub numbers_are_compared : NumbersAreCompared
-numbers_are_compared xs ys e = same_from_decides (equal truths xs ys) (number xs == number ys) (equal_decides xs ys e) (Decides-eqb (number xs) (number ys))
+numbers_are_compared xs ys e = same_from_decides (equal truth_gates xs ys) (number xs == number ys) (equal_decides xs ys e) (Decides-eqb (number xs) (number ys))
 
 pub extensions_keep : ExtensionsKeep
 extensions_keep k xs = number_padded k xs

@@ -3,7 +3,7 @@ use Rattle.std.proofs.Common.{◌≡◌, Bool, true, false, ◌&&◌, ◌||◌, 
 use Rattle.std.specs.Prelude.{not, cond}
 use Rattle.std.proofs.lemmas.Bool.{and_from}
 use Rattle.law_numbers.specs.BitOperators.{BitsOperator, BvaddOp, BvlshrOp, BvshlOp, BvsubOp, TestOperator, BvsleOp, BvsltOp, BvuleOp, BvultOp, OverflowOperator, BvsaddoOp, BvssuboOp}
-use Rattle.law_blasting.specs.Circuits.{Gates, truths}
+use Rattle.law_blasting.specs.Circuits.{Gates, truth_gates}
 use Rattle.law_blasting.specs.Passing.{Related, none, one, Passes}
 use Rattle.law_blasting.proofs.Passing.{circuits_pass}
 use Rattle.law_terms.specs.Meaning.{meaning}
@@ -52,7 +52,7 @@ module _ (J : Interpretation) where
       let k = two_typed a b p q r s in
       record { typed = connected OrOp (one_term a (one_term b no_terms)) (BoolType ∷ BoolType ∷ []) k.0 k.1 refl; value = ap (λ v. BoolValue (truth v || truth (meaning J b))) r.value ∙ ap (λ v. BoolValue (p || truth v)) s.value }
 
-  eq_passes : (a b : PlainTerm) (p q : Bool) → IsBit J a p → IsBit J b q → IsBit J (term_gates.eq a b) (truths.eq p q)
+  eq_passes : (a b : PlainTerm) (p q : Bool) → IsBit J a p → IsBit J b q → IsBit J (term_gates.eq a b) (truth_gates.eq p q)
   eq_passes a b p q r s =
       let k = two_typed a b p q r s in
       record { typed = connected EqOp (one_term a (one_term b no_terms)) (BoolType ∷ BoolType ∷ []) k.0 k.1 refl; value = ap (λ v. BoolValue (value_eq v (meaning J b))) r.value ∙ ap (λ v. BoolValue (value_eq (BoolValue p) v)) s.value ∙ ap BoolValue (sym (same_bits p q)) }
@@ -74,7 +74,7 @@ term_gates_pass J = record {
 }
 
 pub term_circuits_pass : TermCircuitsPass
-term_circuits_pass J = circuits_pass term_gates truths (IsBit J) (term_gates_pass J)
+term_circuits_pass J = circuits_pass term_gates truth_gates (IsBit J) (term_gates_pass J)
 
 -- ---- the circuits of operators, over any gates
 
@@ -116,4 +116,4 @@ module _ {X Y : Type 0} (g : Gates X) (h : Gates Y) (R : X → Y → Type 0) (p 
   operators_pass o q = none
 
 pub operator_circuits_pass : OperatorCircuitsPass
-operator_circuits_pass J o uss bss q = operators_pass term_gates truths (IsBit J) (term_gates_pass J) o q
+operator_circuits_pass J o uss bss q = operators_pass term_gates truth_gates (IsBit J) (term_gates_pass J) o q

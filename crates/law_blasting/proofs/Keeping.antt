@@ -4,7 +4,7 @@ use Rattle.std.specs.Prelude.{Option, Some, None, IfSome, IsTrue}
 use Rattle.std.specs.Option.{option_or}
 use Rattle.std.specs.Cmp.{first_so, second_so}
 use Rattle.std.specs.List.{AllByRecursion, filter_map}
-use Rattle.law_blasting.specs.Circuits.{truths, number_bits}
+use Rattle.law_blasting.specs.Circuits.{truth_gates, number_bits}
 use Rattle.law_blasting.specs.Passing.{Related, none, one}
 use Rattle.law_blasting.proofs.Passing.{same_length}
 use Rattle.law_blasting.proofs.Bits.{numbers_have_bits, bits_have_numbers}
@@ -12,7 +12,7 @@ use Rattle.law_terms.specs.Formed.{IsFormed, IsFormedType, IsFormedLiteral, IsFo
 use Rattle.law_terms.specs.Interpretations.{IsGiven, IsInterpretation}
 use Rattle.law_terms.specs.Meaning.{literal_value, meaning, term_value}
 use Rattle.law_terms.specs.Operators.{truth}
-use Rattle.law_terms.specs.Reached.{subterms, subterms_of_all, variable_of}
+use Rattle.law_terms.specs.Reached.{subterms, subterms_of_all, reached_variable}
 use Rattle.law_terms.specs.Tables.{Interpretation}
 use Rattle.law_terms.specs.Types.{literal_type, type_of, types_of, result_type, is_type}
 use Rattle.law_terms.specs.Typing.{AreBoolean, typed, typed_all}
@@ -75,7 +75,7 @@ module _ (enums : Enums) (vs : Variables) (I : Interpretation) where
   record Known (ts : List PlainTerm) : Type 0 where
     pub literals : AllByRecursion IsFormedNode ts
     pub types : AllByRecursion (λ u. IsFormedType (type_of u)) ts
-    pub numbered : AllByRecursion (λ u. IfSome (variable_of u) (λ v. IsTrue (is_among vs v))) ts
+    pub numbered : AllByRecursion (λ u. IfSome (reached_variable u) (λ v. IsTrue (is_among vs v))) ts
     pub given : AllByRecursion (IsGiven enums I) ts
 
   record Blasts (t : PlainTerm) : Type 0 where
@@ -89,10 +89,10 @@ module _ (enums : Enums) (vs : Variables) (I : Interpretation) where
     pub have : HaveBits I ts truths
 
   known_front : (xs ys : List PlainTerm) → Known (xs ++ ys) → Known xs
-  known_front xs ys k = record { literals = all-front IsFormedNode xs ys k.literals; types = all-front (λ u. IsFormedType (type_of u)) xs ys k.types; numbered = all-front (λ u. IfSome (variable_of u) (λ v. IsTrue (is_among vs v))) xs ys k.numbered; given = all-front (IsGiven enums I) xs ys k.given }
+  known_front xs ys k = record { literals = all-front IsFormedNode xs ys k.literals; types = all-front (λ u. IsFormedType (type_of u)) xs ys k.types; numbered = all-front (λ u. IfSome (reached_variable u) (λ v. IsTrue (is_among vs v))) xs ys k.numbered; given = all-front (IsGiven enums I) xs ys k.given }
 
   known_back : (xs ys : List PlainTerm) → Known (xs ++ ys) → Known ys
-  known_back xs ys k = record { literals = all-back IsFormedNode xs ys k.literals; types = all-back (λ u. IsFormedType (type_of u)) xs ys k.types; numbered = all-back (λ u. IfSome (variable_of u) (λ v. IsTrue (is_among vs v))) xs ys k.numbered; given = all-back (IsGiven enums I) xs ys k.given }
+  known_back xs ys k = record { literals = all-back IsFormedNode xs ys k.literals; types = all-back (λ u. IsFormedType (type_of u)) xs ys k.types; numbered = all-back (λ u. IfSome (reached_variable u) (λ v. IsTrue (is_among vs v))) xs ys k.numbered; given = all-back (IsGiven enums I) xs ys k.given }
 
   mutual
     term_blasts : (t : PlainTerm) → typed t ≡ true → term_refusal t ≡ None → Known (subterms t) → Blasts t
@@ -100,7 +100,7 @@ module _ (enums : Enums) (vs : Variables) (I : Interpretation) where
         let parts = all_blast ts (first_so (typed_all ts) (is_type (result_type o (types_of ts)) t) h) (none_first (terms_refusal ts) (operator_refusal o) (none_second (type_refusal t) (option_or (terms_refusal ts) (operator_refusal o)) r)) (known_front (subterms_of_all ts) (Application o ts t ∷ []) k) in
         let e : result_type o (types_of ts) ≡ Some t = is_type-some (result_type o (types_of ts)) t (second_so (typed_all ts) (is_type (result_type o (types_of ts)) t) h) in
         let s : is_supported o ≡ true = supported o (is_supported o) (none_second (terms_refusal ts) (operator_refusal o) (none_second (type_refusal t) (option_or (terms_refusal ts) (operator_refusal o)) r)) in
-        record { truths = operator_circuit truths o parts.truths; related = operator_circuits_pass (bits vs I) o (blasted_all vs ts) parts.truths parts.related; has = operators_have_bits I o ts parts.truths t e s parts.have }
+        record { truths = operator_circuit truth_gates o parts.truths; related = operator_circuits_pass (bits vs I) o (blasted_all vs ts) parts.truths parts.related; has = operators_have_bits I o ts parts.truths t e s parts.have }
     term_blasts (LiteralTerm l) h r k = record { truths = value_bits (literal_type l) (literal_value l); related = literals_related (bits vs I) (value_bits (literal_type l) (literal_value l)); has = literal_has l r k.literals.0 k.types.0 }
     term_blasts (VariableTerm id t) h r k =
         record { truths = value_bits t (I.variable id t); related = bits_found vs I (number_from 0 vs (id, t)) id t r (at (id, t) 0 vs k.numbered.0); has = value_has enums t (I.variable id t) r k.types.0 k.given.0 }
@@ -130,7 +130,7 @@ bits_valued J us bs none = refl
 bits_valued J us bs (one {x = u} {y = b} {xs = ws} {ys = cs} r h) =
     ap (λ v. v ∷ map (term_value J) ws) (typed_value J u r.typed.parts ∙ r.value) ∙ ap (λ ws. BoolValue b ∷ ws) (bits_valued J ws cs h)
 
-pub reached : (P : (List ℕ × PlainType) → Type 0) (ts : List PlainTerm) → AllByRecursion P (filter_map variable_of ts) → AllByRecursion (λ u. IfSome (variable_of u) P) ts
+pub reached : (P : (List ℕ × PlainType) → Type 0) (ts : List PlainTerm) → AllByRecursion P (filter_map reached_variable ts) → AllByRecursion (λ u. IfSome (reached_variable u) P) ts
 reached P [] h = tt
 reached P (VariableTerm id t ∷ ts) h = (h.0, reached P ts h.1)
 reached P (Application o us t ∷ ts) h = (tt, reached P ts h)
@@ -142,7 +142,7 @@ reached P (SomeTerm t ∷ ts) h = (tt, reached P ts h)
 
 blasts : (enums : Enums) (vs : Variables) (I : Interpretation) (t : PlainTerm) → IsTrue (typed t) → IsFormed t → term_refusal t ≡ None → AreNumbered vs t → IsInterpretation enums (t ∷ []) I → Blasts enums vs I t
 blasts enums vs I t h f r n g =
-    let numbered = all-front (λ u. IfSome (variable_of u) (λ v. IsTrue (is_among vs v))) (subterms t) [] (reached (λ v. IsTrue (is_among vs v)) (subterms t ++ []) n) in
+    let numbered = all-front (λ u. IfSome (reached_variable u) (λ v. IsTrue (is_among vs v))) (subterms t) [] (reached (λ v. IsTrue (is_among vs v)) (subterms t ++ []) n) in
     term_blasts enums vs I t h r (record { literals = f.literals; types = f.types; numbered = numbered; given = all-front (IsGiven enums I) (subterms t) [] g })
 
 pub blast_keeps_values : BlastKeepsValues

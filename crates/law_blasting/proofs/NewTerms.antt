@@ -8,7 +8,7 @@ use Rattle.law_blasting.specs.Passing.{Related, none, one, Passes}
 use Rattle.law_terms.specs.Faults.{unless, is_passed_over, type_fault, operator_fault, term_fault, terms_fault}
 use Rattle.law_terms.specs.Formed.{IsFormedType, IsFormedNode}
 use Rattle.law_terms.specs.Interpretations.{IsGivenOp, IsGiven}
-use Rattle.law_terms.specs.Reached.{subterms, subterms_of_all, variable_of}
+use Rattle.law_terms.specs.Reached.{subterms, subterms_of_all, reached_variable}
 use Rattle.law_terms.specs.Tables.{Interpretation}
 use Rattle.law_terms.specs.Types.{type_of, types_of}
 use Rattle.law_terms.specs.TypeValues.{Enums, IsValue}
@@ -84,10 +84,10 @@ module _ (names : List (List ℕ)) where
 
 module _ (vs : Variables) where
   mutual
-    term_over : (t : PlainTerm) → term_refusal t ≡ None → AllByRecursion (λ u. IfSome (variable_of u) (λ v. IsTrue (is_among vs v))) (subterms t) → Related (λ u w. AllByRecursion (IsBooleanNode (all_names 0 vs)) (subterms u)) (blasted vs t) (blasted vs t)
+    term_over : (t : PlainTerm) → term_refusal t ≡ None → AllByRecursion (λ u. IfSome (reached_variable u) (λ v. IsTrue (is_among vs v))) (subterms t) → Related (λ u w. AllByRecursion (IsBooleanNode (all_names 0 vs)) (subterms u)) (blasted vs t) (blasted vs t)
     term_over (Application o ts t) r k =
         operators_pass term_gates term_gates (λ u w. AllByRecursion (IsBooleanNode (all_names 0 vs)) (subterms u)) (gates_pass (all_names 0 vs)) o
-        (terms_over ts (none_first (terms_refusal ts) (operator_refusal o) (none_second (type_refusal t) (option_or (terms_refusal ts) (operator_refusal o)) r)) (all-front (λ u. IfSome (variable_of u) (λ v. IsTrue (is_among vs v))) (subterms_of_all ts) (Application o ts t ∷ []) k))
+        (terms_over ts (none_first (terms_refusal ts) (operator_refusal o) (none_second (type_refusal t) (option_or (terms_refusal ts) (operator_refusal o)) r)) (all-front (λ u. IfSome (reached_variable u) (λ v. IsTrue (is_among vs v))) (subterms_of_all ts) (Application o ts t ∷ []) k))
     term_over (LiteralTerm l) r k = literals_over (all_names 0 vs) _
     term_over (VariableTerm id t) r k = variables_over (all_names 0 vs) (new_names (number_from 0 vs (id, t)) t) (own_names (λ n. list_any (bytes_eq n) (all_names 0 vs) ≡ true) (id, t) 0 (number_from 0 vs (id, t)) vs (at (id, t) 0 vs k.0) (each_named (all_names 0 vs)))
     term_over (NoneTerm t) r k = none
@@ -95,15 +95,15 @@ module _ (vs : Variables) where
     term_over (SetTerm t ts) r k = none
     term_over (SomeTerm t) r k = none
 
-    terms_over : (ts : PlainTerms) → terms_refusal ts ≡ None → AllByRecursion (λ u. IfSome (variable_of u) (λ v. IsTrue (is_among vs v))) (subterms_of_all ts) → Related (Related (λ u w. AllByRecursion (IsBooleanNode (all_names 0 vs)) (subterms u))) (blasted_all vs ts) (blasted_all vs ts)
+    terms_over : (ts : PlainTerms) → terms_refusal ts ≡ None → AllByRecursion (λ u. IfSome (reached_variable u) (λ v. IsTrue (is_among vs v))) (subterms_of_all ts) → Related (Related (λ u w. AllByRecursion (IsBooleanNode (all_names 0 vs)) (subterms u))) (blasted_all vs ts) (blasted_all vs ts)
     terms_over no_terms r k = none
     terms_over (one_term t ts) r k =
-        one (term_over t (none_first (term_refusal t) (terms_refusal ts) r) (all-front (λ u. IfSome (variable_of u) (λ v. IsTrue (is_among vs v))) (subterms t) (subterms_of_all ts) k))
-        (terms_over ts (none_second (term_refusal t) (terms_refusal ts) r) (all-back (λ u. IfSome (variable_of u) (λ v. IsTrue (is_among vs v))) (subterms t) (subterms_of_all ts) k))
+        one (term_over t (none_first (term_refusal t) (terms_refusal ts) r) (all-front (λ u. IfSome (reached_variable u) (λ v. IsTrue (is_among vs v))) (subterms t) (subterms_of_all ts) k))
+        (terms_over ts (none_second (term_refusal t) (terms_refusal ts) r) (all-back (λ u. IfSome (reached_variable u) (λ v. IsTrue (is_among vs v))) (subterms t) (subterms_of_all ts) k))
 
 pub new_terms_are_boolean : NewTermsAreBoolean
 new_terms_are_boolean vs t r n =
-    all_over (all_names 0 vs) (blasted vs t) (blasted vs t) (term_over vs t r (all-front (λ u. IfSome (variable_of u) (λ v. IsTrue (is_among vs v))) (subterms t) [] (reached (λ v. IsTrue (is_among vs v)) (subterms t ++ []) n)))
+    all_over (all_names 0 vs) (blasted vs t) (blasted vs t) (term_over vs t r (all-front (λ u. IfSome (reached_variable u) (λ v. IsTrue (is_among vs v))) (subterms t) [] (reached (λ v. IsTrue (is_among vs v)) (subterms t ++ []) n)))
 
 -- ---- what they ask
 

@@ -5,7 +5,7 @@ use Rattle.std.specs.Option.{option_or}
 use Rattle.std.specs.List.{AllByRecursion, filter_map}
 use Rattle.std.proofs.lemmas.List.{append-nil}
 use Rattle.std.proofs.lemmas.List.Elements.{filter_map-append}
-use Rattle.law_terms.specs.Reached.{subterms, subterms_of_all, variable_of, reached_terms, reached_variables}
+use Rattle.law_terms.specs.Reached.{subterms, subterms_of_all, reached_variable, reached_terms, reached_variables}
 use Rattle.law_terms.specs.Plain.{PlainType, PlainTerm, Application, NoneTerm, LiteralTerm, RecordTerm, SetTerm, SomeTerm, VariableTerm, PlainTerms, no_terms, one_term}
 use Rattle.law_terms.proofs.Matching.{or_second}
 use Rattle.law_terms.proofs.Shapes.{all-become}
@@ -90,8 +90,8 @@ number_more vs (w ∷ ws) v h = number_more (with_variable vs w) ws v (among_wit
 
 module _ (vs ws : Variables) where
   mutual
-    term_stays : (t : PlainTerm) → AllByRecursion (λ u. IfSome (variable_of u) (λ v. IsTrue (is_among vs v))) (subterms t) → blasted (with_variables vs ws) t ≡ blasted vs t
-    term_stays (Application o ts t) k = ap (operator_circuit term_gates o) (terms_stay ts (all-front (λ u. IfSome (variable_of u) (λ v. IsTrue (is_among vs v))) (subterms_of_all ts) (Application o ts t ∷ []) k))
+    term_stays : (t : PlainTerm) → AllByRecursion (λ u. IfSome (reached_variable u) (λ v. IsTrue (is_among vs v))) (subterms t) → blasted (with_variables vs ws) t ≡ blasted vs t
+    term_stays (Application o ts t) k = ap (operator_circuit term_gates o) (terms_stay ts (all-front (λ u. IfSome (reached_variable u) (λ v. IsTrue (is_among vs v))) (subterms_of_all ts) (Application o ts t ∷ []) k))
     term_stays (LiteralTerm l) k = refl
     term_stays (VariableTerm id t) k = ap (λ n. map new_variable (new_names n t)) (number_more vs ws (id, t) k.0)
     term_stays (NoneTerm t) k = refl
@@ -99,31 +99,31 @@ module _ (vs ws : Variables) where
     term_stays (SetTerm t ts) k = refl
     term_stays (SomeTerm t) k = refl
 
-    terms_stay : (ts : PlainTerms) → AllByRecursion (λ u. IfSome (variable_of u) (λ v. IsTrue (is_among vs v))) (subterms_of_all ts) → blasted_all (with_variables vs ws) ts ≡ blasted_all vs ts
+    terms_stay : (ts : PlainTerms) → AllByRecursion (λ u. IfSome (reached_variable u) (λ v. IsTrue (is_among vs v))) (subterms_of_all ts) → blasted_all (with_variables vs ws) ts ≡ blasted_all vs ts
     terms_stay no_terms k = refl
     terms_stay (one_term t ts) k =
-        ap (λ us. us ∷ blasted_all (with_variables vs ws) ts) (term_stays t (all-front (λ u. IfSome (variable_of u) (λ v. IsTrue (is_among vs v))) (subterms t) (subterms_of_all ts) k))
-        ∙ ap (λ uss. blasted vs t ∷ uss) (terms_stay ts (all-back (λ u. IfSome (variable_of u) (λ v. IsTrue (is_among vs v))) (subterms t) (subterms_of_all ts) k))
+        ap (λ us. us ∷ blasted_all (with_variables vs ws) ts) (term_stays t (all-front (λ u. IfSome (reached_variable u) (λ v. IsTrue (is_among vs v))) (subterms t) (subterms_of_all ts) k))
+        ∙ ap (λ uss. blasted vs t ∷ uss) (terms_stay ts (all-back (λ u. IfSome (reached_variable u) (λ v. IsTrue (is_among vs v))) (subterms t) (subterms_of_all ts) k))
 
 pub numbers_stay : NumbersStay
 numbers_stay vs ws t n = (
   all-become (λ v. is_among vs v ≡ true) (λ v. is_among (with_variables vs ws) v ≡ true) (λ v h. among_more vs ws v h) (reached_variables (t ∷ [])) n,
-  term_stays vs ws t (all-front (λ u. IfSome (variable_of u) (λ v. IsTrue (is_among vs v))) (subterms t) [] (reached (λ v. IsTrue (is_among vs v)) (subterms t ++ []) n)),
+  term_stays vs ws t (all-front (λ u. IfSome (reached_variable u) (λ v. IsTrue (is_among vs v))) (subterms t) [] (reached (λ v. IsTrue (is_among vs v)) (subterms t ++ []) n)),
 )
 
 -- ---- what terms reach
 
 abbrev own : PlainTerm → Variables
-own t = filter_map variable_of (subterms t)
+own t = filter_map reached_variable (subterms t)
 
 abbrev own_all : PlainTerms → Variables
-own_all ts = filter_map variable_of (subterms_of_all ts)
+own_all ts = filter_map reached_variable (subterms_of_all ts)
 
-found_both : (xs ys : List PlainTerm) → filter_map variable_of (xs ++ ys) ≡ filter_map variable_of xs ++ filter_map variable_of ys
-found_both xs ys = filter_map-append variable_of xs ys
+found_both : (xs ys : List PlainTerm) → filter_map reached_variable (xs ++ ys) ≡ filter_map reached_variable xs ++ filter_map reached_variable ys
+found_both xs ys = filter_map-append reached_variable xs ys
 
-found_alone : (xs : List PlainTerm) → filter_map variable_of (xs ++ []) ≡ filter_map variable_of xs
-found_alone xs = ap (filter_map variable_of) (append-nil xs)
+found_alone : (xs : List PlainTerm) → filter_map reached_variable (xs ++ []) ≡ filter_map reached_variable xs
+found_alone xs = ap (filter_map reached_variable) (append-nil xs)
 
 -- ---- the walk
 
@@ -134,10 +134,10 @@ mutual
   walk_is : (vs : Variables) (t : PlainTerm) → walked vs t ≡ unless_refused (term_refusal t) (with_variables vs (own t))
   walk_is vs (Application o ts t) = by (type_refusal t) (terms_refusal ts) (operator_refusal o) (walked_all vs ts) (walks_are vs ts)
     where
-      same : with_variables vs (own_all ts) ≡ with_variables vs (filter_map variable_of (subterms_of_all ts ++ Application o ts t ∷ []))
+      same : with_variables vs (own_all ts) ≡ with_variables vs (filter_map reached_variable (subterms_of_all ts ++ Application o ts t ∷ []))
       same = sym (ap (with_variables vs) (found_both (subterms_of_all ts) (Application o ts t ∷ []) ∙ append-nil (own_all ts)))
 
-      by : (f g h : Option Refusal) (w : Step) → w ≡ unless_refused g (with_variables vs (own_all ts)) → ◌≡◌ {A = Step} (elim f [ Some r ↦ Err r | None ↦ elim w [ Ok ws ↦ unless_refused h ws | Err r ↦ Err r ] ]) (unless_refused (option_or f (option_or g h)) (with_variables vs (filter_map variable_of (subterms_of_all ts ++ Application o ts t ∷ []))))
+      by : (f g h : Option Refusal) (w : Step) → w ≡ unless_refused g (with_variables vs (own_all ts)) → ◌≡◌ {A = Step} (elim f [ Some r ↦ Err r | None ↦ elim w [ Ok ws ↦ unless_refused h ws | Err r ↦ Err r ] ]) (unless_refused (option_or f (option_or g h)) (with_variables vs (filter_map reached_variable (subterms_of_all ts ++ Application o ts t ∷ []))))
       by (Some r) g h w e = refl
       by None (Some r) h w e = ap (λ x. elim x as (λ y. Step) [ Ok ws ↦ unless_refused h ws | Err r ↦ Err r ]) e
       by None None h w e = ap (λ x. elim x as (λ y. Step) [ Ok ws ↦ unless_refused h ws | Err r ↦ Err r ]) e ∙ ap (unless_refused h) same
@@ -153,10 +153,10 @@ mutual
   walks_are vs (one_term t ts) =
       ap (λ x. elim x as (λ y. Step) [ Ok ws ↦ walked_all ws ts | Err r ↦ Err r ]) (walk_is vs t) ∙ by (term_refusal t) (walks_are (with_variables vs (own t)) ts)
     where
-      same : with_variables (with_variables vs (own t)) (own_all ts) ≡ with_variables vs (filter_map variable_of (subterms t ++ subterms_of_all ts))
+      same : with_variables (with_variables vs (own t)) (own_all ts) ≡ with_variables vs (filter_map reached_variable (subterms t ++ subterms_of_all ts))
       same = sym (with_both vs (own t) (own_all ts)) ∙ sym (ap (with_variables vs) (found_both (subterms t) (subterms_of_all ts)))
 
-      by : (f : Option Refusal) → walked_all (with_variables vs (own t)) ts ≡ unless_refused (terms_refusal ts) (with_variables (with_variables vs (own t)) (own_all ts)) → ◌≡◌ {A = Step} (elim (unless_refused f (with_variables vs (own t))) [ Ok ws ↦ walked_all ws ts | Err r ↦ Err r ]) (unless_refused (option_or f (terms_refusal ts)) (with_variables vs (filter_map variable_of (subterms t ++ subterms_of_all ts))))
+      by : (f : Option Refusal) → walked_all (with_variables vs (own t)) ts ≡ unless_refused (terms_refusal ts) (with_variables (with_variables vs (own t)) (own_all ts)) → ◌≡◌ {A = Step} (elim (unless_refused f (with_variables vs (own t))) [ Ok ws ↦ walked_all ws ts | Err r ↦ Err r ]) (unless_refused (option_or f (terms_refusal ts)) (with_variables vs (filter_map reached_variable (subterms t ++ subterms_of_all ts))))
       by None e = e ∙ ap (unless_refused (terms_refusal ts)) same
       by (Some r) e = refl
 
@@ -242,11 +242,11 @@ supported_with vs (w ∷ ws) s k = supported_with (with_variable vs w) ws (by (i
     by true = s
     by false = all-join (λ v. type_refusal v.1 ≡ None) vs (w ∷ []) s (k.0, tt)
 
-both_supported : (xs ys : List PlainTerm) → AreSupported (filter_map variable_of xs) → AreSupported (filter_map variable_of ys) → AreSupported (filter_map variable_of (xs ++ ys))
-both_supported xs ys h k = subst AreSupported (sym (found_both xs ys)) (all-join (λ v. type_refusal v.1 ≡ None) (filter_map variable_of xs) (filter_map variable_of ys) h k)
+both_supported : (xs ys : List PlainTerm) → AreSupported (filter_map reached_variable xs) → AreSupported (filter_map reached_variable ys) → AreSupported (filter_map reached_variable (xs ++ ys))
+both_supported xs ys h k = subst AreSupported (sym (found_both xs ys)) (all-join (λ v. type_refusal v.1 ≡ None) (filter_map reached_variable xs) (filter_map reached_variable ys) h k)
 
 mutual
-  own_supported : (t : PlainTerm) → term_refusal t ≡ None → AreSupported (filter_map variable_of (subterms t))
+  own_supported : (t : PlainTerm) → term_refusal t ≡ None → AreSupported (filter_map reached_variable (subterms t))
   own_supported (Application o ts t) r = both_supported (subterms_of_all ts) (Application o ts t ∷ []) (all_supported ts (none_first (terms_refusal ts) (operator_refusal o) (none_second (type_refusal t) (option_or (terms_refusal ts) (operator_refusal o)) r))) tt
   own_supported (LiteralTerm l) r = tt
   own_supported (VariableTerm id t) r = (r, tt)
@@ -255,7 +255,7 @@ mutual
   own_supported (SetTerm t ts) r = cc
   own_supported (SomeTerm t) r = cc
 
-  all_supported : (ts : PlainTerms) → terms_refusal ts ≡ None → AreSupported (filter_map variable_of (subterms_of_all ts))
+  all_supported : (ts : PlainTerms) → terms_refusal ts ≡ None → AreSupported (filter_map reached_variable (subterms_of_all ts))
   all_supported no_terms r = tt
   all_supported (one_term t ts) r = both_supported (subterms t) (subterms_of_all ts) (own_supported t (none_first (term_refusal t) (terms_refusal ts) r)) (all_supported ts (none_second (term_refusal t) (terms_refusal ts) r))
 

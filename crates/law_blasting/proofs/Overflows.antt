@@ -4,7 +4,7 @@ use Rattle.std.specs.Prelude.{not, ℤ, pos, negsuc, ◌+ℤ◌, ◌-ℤ◌, ◌
 use Rattle.std.specs.Bool.{beq}
 use Rattle.std.proofs.lemmas.Int.{ints}
 use Rattle.law_numbers.specs.BitVectors.{signed}
-use Rattle.law_blasting.specs.Circuits.{truths, weight, number, carry, carries_differ}
+use Rattle.law_blasting.specs.Circuits.{truth_gates, weight, number, carry, carries_differ}
 use Rattle.law_blasting.specs.CircuitLaws.{SumsOverflow}
 use Rattle.law_blasting.proofs.Sums.{added_bit, higher, weight_small}
 use Rattle.law_blasting.proofs.Signs.{top, low, number_parts, low_small, negative_is, signed_is}
@@ -16,14 +16,14 @@ record Carried (x : Bool) (xs : List Bool) (y : Bool) (ys : List Bool) (c : Bool
   pub rest : ℕ
   pub small : rest < 2 ^ length xs
   pub whole : low x xs + low y ys + weight c ≡ rest + weight into * 2 ^ length xs
-  pub differ : carries_differ truths (x ∷ xs) (y ∷ ys) c ≡ not (beq into (carry truths (top x xs) (top y ys) into))
+  pub differ : carries_differ truth_gates (x ∷ xs) (y ∷ ys) c ≡ not (beq into (carry truth_gates (top x xs) (top y ys) into))
 
 carried : (x : Bool) (xs : List Bool) (y : Bool) (ys : List Bool) (c : Bool) → length xs ≡ length ys → Carried x xs y ys c
 carried x [] y [] c e = record { into = c; rest = 0; small = omega arith; whole = omega (arith, mul-one (weight c)); differ = refl }
 carried x [] y (w ∷ ys) c e = absurd (omega (arith, e))
 carried x (z ∷ xs) y [] c e = absurd (omega (arith, e))
 carried x (z ∷ xs) y (w ∷ ys) c e =
-    let r = carried z xs w ys (carry truths x y c) (omega (arith, e)) in
+    let r = carried z xs w ys (carry truth_gates x y c) (omega (arith, e)) in
     let b = added_bit x y c in
     record {
       into = r.into;
@@ -55,7 +55,7 @@ below z h false u e f l = absurd (omega (arith, ints, e, l))
 
 -- l and m are the numbers below the highest bits s and t, and c is carried out of them
 tested : (h l m r : ℕ) (s t c : Bool) (z : ℤ) → l < h → m < h → r < h → l + m ≡ r + weight c * h → z ≡ (pos l -ℤ pos (weight s * h)) +ℤ (pos m -ℤ pos (weight t * h))
-    → not (beq c (carry truths s t c)) ≡ (int_lt z (neg_ℤ (pos h)) || int_le (pos h) z)
+    → not (beq c (carry truth_gates s t c)) ≡ (int_lt z (neg_ℤ (pos h)) || int_le (pos h) z)
 tested h l m r false false false z f g k e i = sym (inside z h _ _ refl refl (omega (arith, ints, f, g, k, e, i)) (omega (arith, ints, f, g, k, e, i)))
 tested h l m r false false true z f g k e i = sym (above z h _ _ refl refl (omega (arith, ints, f, g, k, e, i)))
 tested h l m r true true true z f g k e i = sym (inside z h _ _ refl refl (omega (arith, ints, f, g, k, e, i)) (omega (arith, ints, f, g, k, e, i)))

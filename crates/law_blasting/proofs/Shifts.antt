@@ -7,7 +7,7 @@ use Rattle.std.proofs.Math.Pow.{pow_mono, pow_pos}
 use Rattle.std.proofs.lemmas.Nat.{mul-mod_first, pow-add, shr-shr}
 use Rattle.std.proofs.lemmas.List.{length-replicate, length-take}
 use Rattle.std.proofs.lemmas.Bool.{ltb-false}
-use Rattle.law_blasting.specs.Circuits.{truths, weight, number, choose, any_of, up, down, shift, zeros}
+use Rattle.law_blasting.specs.Circuits.{truth_gates, weight, number, choose, any_of, up, down, shift, zeros}
 use Rattle.law_blasting.specs.CircuitLaws.{ShiftsGoUp, ShiftsGoDown}
 use Rattle.law_blasting.proofs.Sums.{number_below, weight_small}
 
@@ -51,24 +51,24 @@ number_dropped (suc k) (x ∷ xs) =
 
 -- ---- one stage
 
-up_number : (k : ℕ) (xs : List Bool) → number (up truths k xs) ≡ (number xs * 2 ^ k) % 2 ^ length xs
+up_number : (k : ℕ) (xs : List Bool) → number (up truth_gates k xs) ≡ (number xs * 2 ^ k) % 2 ^ length xs
 up_number k xs = number_taken (length xs) (replicate k false ++ xs) ∙ ap (λ n. n % 2 ^ length xs) (number_raised k xs)
 
 quotient_below : (a k n : ℕ) → a < 2 ^ n → a / 2 ^ k < 2 ^ n
 quotient_below a k n l = omega (arith, l, div-le_self a (2 ^ k))
 
-down_number : (k : ℕ) (xs : List Bool) → number (down truths k xs) ≡ number xs / 2 ^ k
+down_number : (k : ℕ) (xs : List Bool) → number (down truth_gates k xs) ≡ number xs / 2 ^ k
 down_number k xs =
     number_taken (length xs) (drop k xs ++ replicate (length xs) false) ∙ ap (λ n. n % 2 ^ length xs) (number_padded (length xs) (drop k xs) ∙ number_dropped k xs)
     ∙ mod-eq_of_lt (quotient_below (number xs) k (length xs) (number_below xs))
 
-pub up_length : (k : ℕ) (xs : List Bool) → length (up truths k xs) ≡ length xs
+pub up_length : (k : ℕ) (xs : List Bool) → length (up truth_gates k xs) ≡ length xs
 up_length k xs = length-take (length xs) (replicate k false ++ xs) ∙ omega (arith, length-append (replicate k false) xs)
 
-pub down_length : (k : ℕ) (xs : List Bool) → length (down truths k xs) ≡ length xs
+pub down_length : (k : ℕ) (xs : List Bool) → length (down truth_gates k xs) ≡ length xs
 down_length k xs = length-take (length xs) (drop k xs ++ replicate (length xs) false) ∙ omega (arith, length-append (drop k xs) (replicate (length xs) false), length-replicate (length xs) false)
 
-pub chosen : (b : Bool) (xs ys : List Bool) → length xs ≡ length ys → choose truths b xs ys ≡ cond b xs ys
+pub chosen : (b : Bool) (xs ys : List Bool) → length xs ≡ length ys → choose truth_gates b xs ys ≡ cond b xs ys
 chosen true [] [] e = refl
 chosen false [] [] e = refl
 chosen b [] (y ∷ ys) e = absurd (omega (arith, e))
@@ -80,22 +80,22 @@ either_length : (b : Bool) (xs ys : List Bool) → length xs ≡ length ys → l
 either_length true xs ys e = e
 either_length false xs ys e = refl
 
-pub shift_length : (move : ℕ → List Bool → List Bool) → ((k : ℕ) (xs : List Bool) → length (move k xs) ≡ length xs) → (n a : ℕ) (bs xs : List Bool) → length (shift truths move n a bs xs) ≡ length xs
+pub shift_length : (move : ℕ → List Bool → List Bool) → ((k : ℕ) (xs : List Bool) → length (move k xs) ≡ length xs) → (n a : ℕ) (bs xs : List Bool) → length (shift truth_gates move n a bs xs) ≡ length xs
 shift_length move keeps n a [] xs = refl
-shift_length move keeps n a (b ∷ bs) xs = by (nat_lt a n) (shift_length move keeps n (2 * a) bs (choose truths b (move a xs) xs))
+shift_length move keeps n a (b ∷ bs) xs = by (nat_lt a n) (shift_length move keeps n (2 * a) bs (choose truth_gates b (move a xs) xs))
   where
-    by : (t : Bool) → length (shift truths move n (2 * a) bs (choose truths b (move a xs) xs)) ≡ length (choose truths b (move a xs) xs) → length {A = Bool} (elim t [ true ↦ shift truths move n (2 * a) bs (choose truths b (move a xs) xs) | false ↦ choose truths (any_of truths (b ∷ bs)) (zeros truths xs) xs ]) ≡ length xs
+    by : (t : Bool) → length (shift truth_gates move n (2 * a) bs (choose truth_gates b (move a xs) xs)) ≡ length (choose truth_gates b (move a xs) xs) → length {A = Bool} (elim t [ true ↦ shift truth_gates move n (2 * a) bs (choose truth_gates b (move a xs) xs) | false ↦ choose truth_gates (any_of truth_gates (b ∷ bs)) (zeros truth_gates xs) xs ]) ≡ length xs
     by true again = again ∙ ap length (chosen b (move a xs) xs (keeps a xs)) ∙ either_length b (move a xs) xs (keeps a xs)
-    by false again = let z : length (zeros truths xs) ≡ length xs = length-replicate (length xs) false in ap length (chosen (any_of truths (b ∷ bs)) (zeros truths xs) xs z) ∙ either_length (any_of truths (b ∷ bs)) (zeros truths xs) xs z
+    by false again = let z : length (zeros truth_gates xs) ≡ length xs = length-replicate (length xs) false in ap length (chosen (any_of truth_gates (b ∷ bs)) (zeros truth_gates xs) xs z) ∙ either_length (any_of truth_gates (b ∷ bs)) (zeros truth_gates xs) xs z
 
 -- ---- what is left out
 
-some_is : (bs : List Bool) → any_of truths bs ≡ true → 1 ≤ number bs
+some_is : (bs : List Bool) → any_of truth_gates bs ≡ true → 1 ≤ number bs
 some_is [] e = absurd (cc)
 some_is (true ∷ bs) e = omega arith
 some_is (false ∷ bs) e = omega (arith, some_is bs e)
 
-none_is : (bs : List Bool) → any_of truths bs ≡ false → number bs ≡ 0
+none_is : (bs : List Bool) → any_of truth_gates bs ≡ false → number bs ≡ 0
 none_is [] e = refl
 none_is (true ∷ bs) e = absurd (cc)
 none_is (false ∷ bs) e = omega (arith, none_is bs e)
@@ -129,12 +129,12 @@ places a m false = omega (arith, twice a m)
 
 module _ (move : ℕ → List Bool → List Bool) (F : ℕ → ℕ → ℕ → ℕ) (keeps : (k : ℕ) (xs : List Bool) → length (move k xs) ≡ length xs) (moves : (k : ℕ) (xs : List Bool) → number (move k xs) ≡ F (length xs) (number xs) k)
     (still : (n x : ℕ) → x < 2 ^ n → F n x 0 ≡ x) (onward : (n x j k : ℕ) → F n (F n x j) k ≡ F n x (j + k)) (away : (n x m : ℕ) → x < 2 ^ n → n ≤ m → F n x m ≡ 0) where
-  shifted : (a : ℕ) (bs xs : List Bool) → number (shift truths move (length xs) a bs xs) ≡ F (length xs) (number xs) (a * number bs)
+  shifted : (a : ℕ) (bs xs : List Bool) → number (shift truth_gates move (length xs) a bs xs) ≡ F (length xs) (number xs) (a * number bs)
   shifted a [] xs = sym (ap (F (length xs) (number xs)) (mul-zero a) ∙ still (length xs) (number xs) (number_below xs))
-  shifted a (b ∷ bs) xs = by (nat_lt a (length xs)) refl (shifted (2 * a) bs (choose truths b (move a xs) xs))
+  shifted a (b ∷ bs) xs = by (nat_lt a (length xs)) refl (shifted (2 * a) bs (choose truth_gates b (move a xs) xs))
     where
       stage : List Bool
-      stage = choose truths b (move a xs) xs
+      stage = choose truth_gates b (move a xs) xs
 
       stage_length : length stage ≡ length xs
       stage_length = ap length (chosen b (move a xs) xs (keeps a xs)) ∙ either_length b (move a xs) xs (keeps a xs)
@@ -146,21 +146,21 @@ module _ (move : ℕ → List Bool → List Bool) (F : ℕ → ℕ → ℕ → �
       stage_number : number stage ≡ F (length xs) (number xs) (cond b a 0)
       stage_number = ap number (chosen b (move a xs) xs (keeps a xs)) ∙ stage_by b
 
-      rest : (c : Bool) → any_of truths (b ∷ bs) ≡ c → length xs ≤ a → number (choose truths (any_of truths (b ∷ bs)) (replicate (length xs) false) xs) ≡ F (length xs) (number xs) (a * number (b ∷ bs))
+      rest : (c : Bool) → any_of truth_gates (b ∷ bs) ≡ c → length xs ≤ a → number (choose truth_gates (any_of truth_gates (b ∷ bs)) (replicate (length xs) false) xs) ≡ F (length xs) (number xs) (a * number (b ∷ bs))
       rest true e l =
-          ap number (ap (λ d. choose truths d (replicate (length xs) false) xs) e ∙ chosen true (replicate (length xs) false) xs (length-replicate (length xs) false)) ∙ zeros_number (length xs)
+          ap number (ap (λ d. choose truth_gates d (replicate (length xs) false) xs) e ∙ chosen true (replicate (length xs) false) xs (length-replicate (length xs) false)) ∙ zeros_number (length xs)
           ∙ sym (away (length xs) (number xs) (a * number (b ∷ bs)) (number_below xs) (far a (number (b ∷ bs)) (length xs) l (some_is (b ∷ bs) e)))
       rest false e l =
-          ap number (ap (λ d. choose truths d (replicate (length xs) false) xs) e ∙ chosen false (replicate (length xs) false) xs (length-replicate (length xs) false))
+          ap number (ap (λ d. choose truth_gates d (replicate (length xs) false) xs) e ∙ chosen false (replicate (length xs) false) xs (length-replicate (length xs) false))
           ∙ sym (ap (λ m. F (length xs) (number xs) (a * m)) (none_is (b ∷ bs) e) ∙ ap (F (length xs) (number xs)) (mul-zero a) ∙ still (length xs) (number xs) (number_below xs))
 
-      by : (t : Bool) → nat_lt a (length xs) ≡ t → number (shift truths move (length stage) (2 * a) bs stage) ≡ F (length stage) (number stage) (2 * a * number bs) → number (elim t [ true ↦ shift truths move (length xs) (2 * a) bs stage | false ↦ choose truths (any_of truths (b ∷ bs)) (replicate (length xs) false) xs ]) ≡ F (length xs) (number xs) (a * number (b ∷ bs))
+      by : (t : Bool) → nat_lt a (length xs) ≡ t → number (shift truth_gates move (length stage) (2 * a) bs stage) ≡ F (length stage) (number stage) (2 * a * number bs) → number (elim t [ true ↦ shift truth_gates move (length xs) (2 * a) bs stage | false ↦ choose truth_gates (any_of truth_gates (b ∷ bs)) (replicate (length xs) false) xs ]) ≡ F (length xs) (number xs) (a * number (b ∷ bs))
       by true e again =
-          subst (λ n. number (shift truths move n (2 * a) bs stage) ≡ F n (number stage) (2 * a * number bs)) stage_length again
+          subst (λ n. number (shift truth_gates move n (2 * a) bs stage) ≡ F n (number stage) (2 * a * number bs)) stage_length again
           ∙ ap (λ v. F (length xs) v (2 * a * number bs)) stage_number
           ∙ onward (length xs) (number xs) (cond b a 0) (2 * a * number bs)
           ∙ ap (F (length xs) (number xs)) (sym (places a (number bs) b))
-      by false e again = rest (any_of truths (b ∷ bs)) refl (ltb-false a (length xs) e)
+      by false e again = rest (any_of truth_gates (b ∷ bs)) refl (ltb-false a (length xs) e)
 
 -- ---- up and down
 
@@ -189,11 +189,11 @@ lshr_is n x b false l e = nothing_high x n b l (ltb-false b n e)
 pub shifts_go_up : ShiftsGoUp
 unfolding raised
 shifts_go_up xs ys =
-    shifted (up truths) raised up_length up_number up_still up_onward (λ n x m l k. nothing_low x n m k) 1 ys xs
+    shifted (up truth_gates) raised up_length up_number up_still up_onward (λ n x m l k. nothing_low x n m k) 1 ys xs
     ∙ ap (raised (length xs) (number xs)) (omega arith) ∙ shl_is (length xs) (number xs) (number ys) (nat_lt (number ys) (length xs)) refl
 
 pub shifts_go_down : ShiftsGoDown
 unfolding lowered
 shifts_go_down xs ys =
-    shifted (down truths) lowered down_length down_number (λ n x l. div-one x) (λ n x j k. shr-shr x j k) (λ n x m l k. nothing_high x n m l k) 1 ys xs
+    shifted (down truth_gates) lowered down_length down_number (λ n x l. div-one x) (λ n x j k. shr-shr x j k) (λ n x m l k. nothing_high x n m l k) 1 ys xs
     ∙ ap (lowered (length xs) (number xs)) (omega arith) ∙ lshr_is (length xs) (number xs) (number ys) (nat_lt (number ys) (length xs)) (number_below xs) refl

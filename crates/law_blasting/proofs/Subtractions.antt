@@ -7,7 +7,7 @@ use Rattle.std.proofs.lemmas.List.{length-replicate}
 use Rattle.std.proofs.Math.Pow.{pow_pos}
 use Rattle.std.proofs.lemmas.Bool.{leb-true}
 use Rattle.law_numbers.specs.BitVectors.{signed, overflows}
-use Rattle.law_blasting.specs.Circuits.{truths, weight, number, borrow, borrows_differ, zeros}
+use Rattle.law_blasting.specs.Circuits.{truth_gates, weight, number, borrow, borrows_differ, zeros}
 use Rattle.law_blasting.specs.CircuitLaws.{DifferencesOverflow, NegationsAreTaken, NegationsOverflow}
 use Rattle.law_blasting.proofs.Sums.{taken_bit, higher, weight_small, differences_are_taken}
 use Rattle.law_blasting.proofs.Shifts.{zeros_number}
@@ -21,14 +21,14 @@ record Borrowed (x : Bool) (xs : List Bool) (y : Bool) (ys : List Bool) (c : Boo
   pub rest : ℕ
   pub small : rest < 2 ^ length xs
   pub whole : low x xs + weight into * 2 ^ length xs ≡ rest + low y ys + weight c
-  pub differ : borrows_differ truths (x ∷ xs) (y ∷ ys) c ≡ not (beq into (borrow truths (top x xs) (top y ys) into))
+  pub differ : borrows_differ truth_gates (x ∷ xs) (y ∷ ys) c ≡ not (beq into (borrow truth_gates (top x xs) (top y ys) into))
 
 borrowed : (x : Bool) (xs : List Bool) (y : Bool) (ys : List Bool) (c : Bool) → length xs ≡ length ys → Borrowed x xs y ys c
 borrowed x [] y [] c e = record { into = c; rest = 0; small = omega arith; whole = omega (arith, mul-one (weight c)); differ = refl }
 borrowed x [] y (w ∷ ys) c e = absurd (omega (arith, e))
 borrowed x (z ∷ xs) y [] c e = absurd (omega (arith, e))
 borrowed x (z ∷ xs) y (w ∷ ys) c e =
-    let r = borrowed z xs w ys (borrow truths x y c) (omega (arith, e)) in
+    let r = borrowed z xs w ys (borrow truth_gates x y c) (omega (arith, e)) in
     let b = taken_bit x y c in
     record {
       into = r.into;
@@ -40,7 +40,7 @@ borrowed x (z ∷ xs) y (w ∷ ys) c e =
 
 -- l and m are the numbers below the highest bits s and t, and c is borrowed from them
 tested : (h l m r : ℕ) (s t c : Bool) (z : ℤ) → l < h → m < h → r < h → l + weight c * h ≡ r + m → z ≡ (pos l -ℤ pos (weight s * h)) -ℤ (pos m -ℤ pos (weight t * h))
-    → not (beq c (borrow truths s t c)) ≡ (int_lt z (neg_ℤ (pos h)) || int_le (pos h) z)
+    → not (beq c (borrow truth_gates s t c)) ≡ (int_lt z (neg_ℤ (pos h)) || int_le (pos h) z)
 tested h l m r false false false z f g k e i = sym (inside z h _ _ refl refl (omega (arith, ints, f, g, k, e, i)) (omega (arith, ints, f, g, k, e, i)))
 tested h l m r false false true z f g k e i = sym (inside z h _ _ refl refl (omega (arith, ints, f, g, k, e, i)) (omega (arith, ints, f, g, k, e, i)))
 tested h l m r true true true z f g k e i = sym (inside z h _ _ refl refl (omega (arith, ints, f, g, k, e, i)) (omega (arith, ints, f, g, k, e, i)))
@@ -75,7 +75,7 @@ differences_overflow (x ∷ xs) (y ∷ ys) k e f =
 
 pub negations_are_taken : NegationsAreTaken
 negations_are_taken xs =
-    differences_are_taken (zeros truths xs) xs (length-replicate (length xs) false) ∙ ap (λ n. (number (zeros truths xs) + (2 ^ n - number xs)) % 2 ^ n) (length-replicate (length xs) false)
+    differences_are_taken (zeros truth_gates xs) xs (length-replicate (length xs) false) ∙ ap (λ n. (number (zeros truth_gates xs) + (2 ^ n - number xs)) % 2 ^ n) (length-replicate (length xs) false)
     ∙ ap (λ a. (a + (2 ^ length xs - number xs)) % 2 ^ length xs) (zeros_number (length xs)) ∙ ap (λ a. a % 2 ^ length xs) (omega arith)
 
 zero_is : (n : ℕ) (t : Bool) → nat_le (2 ^ n) (2 * 0) ≡ t → t ≡ false
@@ -87,7 +87,7 @@ from_zero z = omega (arith, ints)
 
 pub negations_overflow : NegationsOverflow
 negations_overflow xs k e =
-    differences_overflow (zeros truths xs) xs k (length-replicate (length xs) false ∙ e) e
+    differences_overflow (zeros truth_gates xs) xs k (length-replicate (length xs) false ∙ e) e
     ∙ ap (λ a. overflows (suc k) (signed (suc k) a -ℤ signed (suc k) (number xs))) (zeros_number (length xs))
     ∙ ap (λ v. overflows (suc k) (v -ℤ signed (suc k) (number xs))) (signed_is (suc k) 0 false (zero_is (suc k) (nat_le (2 ^ suc k) (2 * 0)) refl))
     ∙ ap (overflows (suc k)) (from_zero (signed (suc k) (number xs)))

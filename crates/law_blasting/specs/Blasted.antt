@@ -12,7 +12,8 @@ use Rattle.law_terms.specs.Reached.{reached_variables}
 use Rattle.law_terms.specs.Tables.{Interpretation}
 use Rattle.law_terms.specs.Types.{literal_type}
 use Rattle.law_terms.specs.Values.{Value, BoolValue, BitVecValue}
-use Rattle.law_terms.specs.Plain.{PlainType, BitVecType, BoolType, BoolLiteral, PlainTerm, Application, LiteralTerm, VariableTerm, PlainTerms, no_terms, one_term}
+use Rattle.law_terms.specs.Plain.{PlainType, BitVecType, BoolType, BoolLiteral, PlainTerm, Application, LiteralTerm, VariableTerm}
+use Rattle.law_terms.specs.Plain.{PlainTerms, no_terms, one_term}
 use Rattle.law_scripts.specs.Numerals.{numbered, numeral}
 use Rattle.law_blasting.specs.OperatorCircuits.{term_gates, operator_circuit}
 
@@ -100,7 +101,15 @@ bits_from k (v ∷ vs) I = zip (new_names k v.1) (value_bits v.1 (I.variable v.0
 
 -- the interpretation of the new variables that an interpretation of the old ones gives: each is the Boolean or the bit for which it stands
 abbrev pub bits : Variables → Interpretation → Interpretation
-bits vs I = record { variable = λ name t. BoolValue (unwrap_or (lookup (bytes_eq name) (bits_from 0 vs I)) false); function = λ f. empty_table; inside_none = λ t. unused_value; other_family = λ o. empty_table }
+bits vs I =
+    record {
+      variable =
+          λ name t.
+          BoolValue (unwrap_or (lookup (bytes_eq name) (bits_from 0 vs I)) false);
+      function = λ f. empty_table;
+      inside_none = λ t. unused_value;
+      other_family = λ o. empty_table;
+    }
 
 -- the value of a type that has these bits
 abbrev pub value_of_bits : PlainType → List Bool → Value
@@ -110,4 +119,12 @@ value_of_bits t bs = unused_value
 
 -- and back: the interpretation of the old variables that an interpretation of the new ones gives
 abbrev pub unbits : Variables → Interpretation → Interpretation
-unbits vs J = record { variable = λ id t. value_of_bits t (map (λ name. truth (J.variable name BoolType)) (new_names (number_from 0 vs (id, t)) t)); function = λ f. empty_table; inside_none = λ t. unused_value; other_family = λ o. empty_table }
+unbits vs J =
+    record {
+      variable =
+          λ id t.
+          value_of_bits t (map (λ name. truth (J.variable name BoolType)) (new_names (number_from 0 vs (id, t)) t));
+      function = λ f. empty_table;
+      inside_none = λ t. unused_value;
+      other_family = λ o. empty_table;
+    }

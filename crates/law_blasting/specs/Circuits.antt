@@ -1,5 +1,6 @@
 -- Circuits over lists of bits, the lowest first, and the numbers of such lists.
-use Rattle.std.specs.Prelude.{ℕ, zero, suc, ◌+◌, ◌*◌, ◌/◌, ◌%◌, ◌==◌, Bool, true, false, cond, not, ◌&&◌, ◌||◌, List, [], ◌∷◌, ◌++◌, drop, length, nat_lt, replicate, take}
+use Rattle.std.specs.Prelude.{ℕ, zero, suc, ◌+◌, ◌*◌, ◌/◌, ◌%◌, ◌==◌, Bool, true, false, cond, not, ◌&&◌, ◌||◌, List, [], ◌∷◌, ◌++◌, drop}
+use Rattle.std.specs.Prelude.{length, nat_lt, replicate, take}
 use Rattle.std.specs.Bool.{beq}
 
 -- what circuits are made of: two constants, and gates
@@ -13,8 +14,8 @@ pub record Gates (X : Type 0) : Type 0 where
   pub ite : X → X → X → X
 
 -- gates that compute at once, with truths for bits
-abbrev pub truths : Gates Bool
-truths = record { no = false; yes = true; not = not; and = λ a b. a && b; or = λ a b. a || b; eq = beq; ite = cond }
+abbrev pub truth_gates : Gates Bool
+truth_gates = record { no = false; yes = true; not = not; and = λ a b. a && b; or = λ a b. a || b; eq = beq; ite = cond }
 
 -- what a bit counts: 1 where it is set, and else 0
 abbrev pub weight : Bool → ℕ

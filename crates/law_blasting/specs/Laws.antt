@@ -1,7 +1,7 @@
 -- Blasted terms have the bits of what they stand for.
 use Rattle.std.specs.Prelude.{◌≡◌, bytes_eq, ℕ, Bool, None, List, [], ◌∷◌, length, map, IsFalse, IsTrue, ⊤}
 use Rattle.std.specs.List.{AllByRecursion, list_any}
-use Rattle.law_blasting.specs.Circuits.{truths}
+use Rattle.law_blasting.specs.Circuits.{truth_gates}
 use Rattle.law_blasting.specs.Passing.{Related, Passes, CircuitsPass}
 use Rattle.law_terms.specs.Formed.{IsFormed}
 use Rattle.law_terms.specs.Interpretations.{IsInterpretation}
@@ -23,19 +23,23 @@ pub record IsBit (J : Interpretation) (u : PlainTerm) (b : Bool) : Type 0 where
 
 -- gates that are terms have in every interpretation the truth that gates give which compute at once
 abbrev pub TermGatesPass : Type 0
-TermGatesPass = (J : Interpretation) → Passes term_gates truths (IsBit J)
+TermGatesPass = (J : Interpretation) → Passes term_gates truth_gates (IsBit J)
 
 -- so have circuits of such gates
 abbrev pub TermCircuitsPass : Type 0
-TermCircuitsPass = (J : Interpretation) → CircuitsPass term_gates truths (IsBit J)
+TermCircuitsPass = (J : Interpretation) → CircuitsPass term_gates truth_gates (IsBit J)
 
 -- and so has the circuit of each operator
 abbrev pub OperatorCircuitsPass : Type 0
-OperatorCircuitsPass = (J : Interpretation) (o : PlainOp) (uss : List (List PlainTerm)) (bss : List (List Bool)) → Related (Related (IsBit J)) uss bss → Related (IsBit J) (operator_circuit term_gates o uss) (operator_circuit truths o bss)
+OperatorCircuitsPass =
+    (J : Interpretation) (o : PlainOp) (uss : List (List PlainTerm)) (bss : List (List Bool)) → Related (Related (IsBit J)) uss bss →
+    Related (IsBit J) (operator_circuit term_gates o uss) (operator_circuit truth_gates o bss)
 
 -- blasted terms are typed as Booleans, as many as the old term's type has bits
 abbrev pub BlastedTermsAreTyped : Type 0
-BlastedTermsAreTyped = (vs : Variables) (t : PlainTerm) → IsTrue (typed t) → IsFormed t → term_refusal t ≡ None → AreNumbered vs t → AreBoolean (blasted vs t) × (length (blasted vs t) ≡ bits_in (type_of t))
+BlastedTermsAreTyped =
+    (vs : Variables) (t : PlainTerm) → IsTrue (typed t) → IsFormed t → term_refusal t ≡ None → AreNumbered vs t →
+    AreBoolean (blasted vs t) × (length (blasted vs t) ≡ bits_in (type_of t))
 
 -- the values of blasted terms are the bits of the old term's value
 abbrev pub AreItsBits : Variables → Interpretation → PlainTerm → Type 0
@@ -43,7 +47,9 @@ AreItsBits vs I t = map (term_value (bits vs I)) (blasted vs t) ≡ map BoolValu
 
 -- blasted terms have in each interpretation of the old term the bits of its value
 abbrev pub BlastKeepsValues : Type 0
-BlastKeepsValues = (enums : Enums) (vs : Variables) (I : Interpretation) (t : PlainTerm) → IsTrue (typed t) → IsFormed t → term_refusal t ≡ None → AreNumbered vs t → IsInterpretation enums (t ∷ []) I → AreItsBits vs I t
+BlastKeepsValues =
+    (enums : Enums) (vs : Variables) (I : Interpretation) (t : PlainTerm) → IsTrue (typed t) → IsFormed t → term_refusal t ≡ None →
+    AreNumbered vs t → IsInterpretation enums (t ∷ []) I → AreItsBits vs I t
 
 -- the one new term of an old term that is a Boolean
 abbrev pub root : Variables → PlainTerm → PlainTerm
@@ -57,11 +63,16 @@ pub record IsItsRoot (vs : Variables) (I : Interpretation) (t : PlainTerm) : Typ
 
 -- the new term of a Boolean old one stands alone, is a Boolean, and has the old one's value in each interpretation of it
 abbrev pub RootsKeepValues : Type 0
-RootsKeepValues = (enums : Enums) (vs : Variables) (I : Interpretation) (t : PlainTerm) → Typed t BoolType → IsFormed t → term_refusal t ≡ None → AreNumbered vs t → IsInterpretation enums (t ∷ []) I → IsItsRoot vs I t
+RootsKeepValues =
+    (enums : Enums) (vs : Variables) (I : Interpretation) (t : PlainTerm) → Typed t BoolType → IsFormed t → term_refusal t ≡ None →
+    AreNumbered vs t → IsInterpretation enums (t ∷ []) I → IsItsRoot vs I t
 
 -- connectives of Booleans keep their form
 abbrev pub FormsStay : Type 0
-FormsStay = (vs : Variables) (o : PlainOp) (ts : List PlainTerm) → IsTrue (is_connective o) → IsTrue (typed (Application o (terms ts) BoolType)) → AreBoolean ts → AllByRecursion IsFormed ts → first_refusal ts ≡ None → AllByRecursion (AreNumbered vs) ts → blasted vs (Application o (terms ts) BoolType) ≡ Application o (terms (map (root vs) ts)) BoolType ∷ []
+FormsStay =
+    (vs : Variables) (o : PlainOp) (ts : List PlainTerm) → IsTrue (is_connective o) → IsTrue (typed (Application o (terms ts) BoolType)) →
+    AreBoolean ts → AllByRecursion IsFormed ts → first_refusal ts ≡ None → AllByRecursion (AreNumbered vs) ts →
+    blasted vs (Application o (terms ts) BoolType) ≡ Application o (terms (map (root vs) ts)) BoolType ∷ []
 
 -- ---- one to one, and onto
 
@@ -105,8 +116,12 @@ BitsAreBooleans = (enums : Enums) (vs : Variables) (I : Interpretation) → Give
 
 -- two interpretations of the old variables that have the same bits give the old variables the same
 abbrev pub BitsAreOneToOne : Type 0
-BitsAreOneToOne = (enums : Enums) (vs : Variables) (I K : Interpretation) → AreSupported vs → GivesValues enums vs I → GivesValues enums vs K → AgreeOnNew vs (bits vs I) (bits vs K) → AgreeOnOld vs I K
+BitsAreOneToOne =
+    (enums : Enums) (vs : Variables) (I K : Interpretation) → AreSupported vs → GivesValues enums vs I → GivesValues enums vs K →
+    AgreeOnNew vs (bits vs I) (bits vs K) → AgreeOnOld vs I K
 
 -- every interpretation of the new variables is the bits of one of the old, which gives values of their types
 abbrev pub BitsAreOnto : Type 0
-BitsAreOnto = (enums : Enums) (vs : Variables) (J : Interpretation) → AreSupported vs → AreDistinct vs → GivesBooleans enums vs J → GivesValues enums vs (unbits vs J) × AgreeOnNew vs (bits vs (unbits vs J)) J
+BitsAreOnto =
+    (enums : Enums) (vs : Variables) (J : Interpretation) → AreSupported vs → AreDistinct vs → GivesBooleans enums vs J →
+    GivesValues enums vs (unbits vs J) × AgreeOnNew vs (bits vs (unbits vs J)) J

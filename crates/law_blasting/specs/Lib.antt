@@ -1,12 +1,12 @@
 pub mod Blasted
 pub mod CircuitLaws
 pub mod Circuits
-pub mod Examples
 pub mod Laws
 pub mod NewTerms
 pub mod Numbering
 pub mod OperatorCircuits
 pub mod Passing
 pub mod Refusals
+pub mod Rows
 pub mod Sizes
 pub mod Theorem

@@ -25,7 +25,9 @@ IsBooleanOver names u = AllByRecursion (IsBooleanNode names) (subterms u)
 
 -- blasted terms are Boolean terms over the new variables alone
 abbrev pub NewTermsAreBoolean : Type 0
-NewTermsAreBoolean = (vs : Variables) (t : PlainTerm) → term_refusal t ≡ None → AreNumbered vs t → AllByRecursion (IsBooleanOver (all_names 0 vs)) (blasted vs t)
+NewTermsAreBoolean =
+    (vs : Variables) (t : PlainTerm) → term_refusal t ≡ None → AreNumbered vs t →
+    AllByRecursion (IsBooleanOver (all_names 0 vs)) (blasted vs t)
 
 -- Boolean terms over variables are formed
 abbrev pub BooleanTermsAreFormed : Type 0
@@ -33,8 +35,11 @@ BooleanTermsAreFormed = (names : List (List ℕ)) (u : PlainTerm) → IsBooleanO
 
 -- they have no fault, whatever enum types there are
 abbrev pub BooleanTermsHaveNoFault : Type 0
-BooleanTermsHaveNoFault = (enums : Enums) (names : List (List ℕ)) (u : PlainTerm) → IsBooleanOver names u → first_fault enums (u ∷ []) ≡ None
+BooleanTermsHaveNoFault =
+    (enums : Enums) (names : List (List ℕ)) (u : PlainTerm) → IsBooleanOver names u → first_fault enums (u ∷ []) ≡ None
 
 -- they ask of an interpretation only that it gives the variables Booleans
 abbrev pub BooleansInterpret : Type 0
-BooleansInterpret = (enums : Enums) (vs : Variables) (J : Interpretation) (u : PlainTerm) → IsBooleanOver (all_names 0 vs) u → GivesBooleans enums vs J → IsInterpretation enums (u ∷ []) J
+BooleansInterpret =
+    (enums : Enums) (vs : Variables) (J : Interpretation) (u : PlainTerm) → IsBooleanOver (all_names 0 vs) u → GivesBooleans enums vs J →
+    IsInterpretation enums (u ∷ []) J

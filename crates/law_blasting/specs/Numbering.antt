@@ -30,7 +30,9 @@ abbrev mutual
   -- A walk over a term that goes on from some variables: a term's type, then its parts, then itself. It gives the variables met so far,
   -- or the first refusal.
   pub walked : Variables → PlainTerm → Result Variables Refusal
-  walked vs (Application o ts t) = elim (type_refusal t) [ Some r ↦ Err r | None ↦ elim (walked_all vs ts) [ Ok ws ↦ unless_refused (operator_refusal o) ws | Err r ↦ Err r ] ]
+  walked vs (Application o ts t) =
+      elim (type_refusal t)
+      [ Some r ↦ Err r | None ↦ elim (walked_all vs ts) [ Ok ws ↦ unless_refused (operator_refusal o) ws | Err r ↦ Err r ] ]
   walked vs (LiteralTerm l) = unless_refused (type_refusal (literal_type l)) vs
   walked vs (VariableTerm id t) = unless_refused (type_refusal t) (with_variable vs (id, t))
   walked vs t = unless_refused (type_refusal (type_of t)) vs
@@ -47,11 +49,14 @@ walked_list vs (t ∷ ts) = elim (walked vs t) [ Ok ws ↦ walked_list ws ts | E
 
 -- the walk meets the variables in the order in which the term reaches them, and stops at the term's first refusal
 abbrev pub WalksAreStated : Type 0
-WalksAreStated = (vs : Variables) (t : PlainTerm) → walked vs t ≡ unless_refused (term_refusal t) (with_variables vs (reached_variables (t ∷ [])))
+WalksAreStated =
+    (vs : Variables) (t : PlainTerm) → walked vs t ≡ unless_refused (term_refusal t) (with_variables vs (reached_variables (t ∷ [])))
 
 -- the same holds of a walk over terms one after the other
 abbrev pub ListsAreWalked : Type 0
-ListsAreWalked = (vs : Variables) (ts : List PlainTerm) → walked_list vs ts ≡ unless_refused (first_refusal ts) (with_variables vs (reached_variables ts))
+ListsAreWalked =
+    (vs : Variables) (ts : List PlainTerm) →
+    walked_list vs ts ≡ unless_refused (first_refusal ts) (with_variables vs (reached_variables ts))
 
 -- where a walk comes to its end, the term has no refusal, and the variables that it reaches are among those that were met
 abbrev pub WalksNumber : Type 0
@@ -63,7 +68,9 @@ WalksAddNothing = (vs : Variables) (t : PlainTerm) → term_refusal t ≡ None �
 
 -- a term stays numbered when more variables come behind, and its blasted terms are the same
 abbrev pub NumbersStay : Type 0
-NumbersStay = (vs ws : Variables) (t : PlainTerm) → AreNumbered vs t → AreNumbered (with_variables vs ws) t × (blasted (with_variables vs ws) t ≡ blasted vs t)
+NumbersStay =
+    (vs ws : Variables) (t : PlainTerm) → AreNumbered vs t →
+    AreNumbered (with_variables vs ws) t × (blasted (with_variables vs ws) t ≡ blasted vs t)
 
 -- the variables of terms are all that each of them reaches
 abbrev pub VariablesAreNumbered : Type 0

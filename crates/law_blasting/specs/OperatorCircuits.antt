@@ -1,8 +1,11 @@
 -- Terms as gates, and a circuit for each operator: from the bits of its arguments, the lowest first, to the bits of what it gives.
 use Rattle.std.specs.Prelude.{true, false, List, [], ◌∷◌, length}
-use Rattle.law_numbers.specs.BitOperators.{BitsOperator, BvaddOp, BvlshrOp, BvshlOp, BvsubOp, TestOperator, BvsleOp, BvsltOp, BvuleOp, BvultOp, OverflowOperator, BvsaddoOp, BvssuboOp}
-use Rattle.law_blasting.specs.Circuits.{Gates, sum, difference, borrow_out, carries_differ, borrows_differ, equal, zeros, extended, choose, up, down, shift, with_top}
-use Rattle.law_terms.specs.Plain.{BoolType, PlainOp, AndOp, BitsOp, BvnegOp, BvnegoOp, EqOp, IteOp, NotOp, OrOp, OverflowOp, TestOp, ZeroExtendOp, BoolLiteral, PlainTerm, Application, LiteralTerm, terms}
+use Rattle.law_numbers.specs.BitOperators.{BitsOperator, BvaddOp, BvlshrOp, BvshlOp, BvsubOp, TestOperator, BvsleOp, BvsltOp, BvuleOp}
+use Rattle.law_numbers.specs.BitOperators.{BvultOp, OverflowOperator, BvsaddoOp, BvssuboOp}
+use Rattle.law_blasting.specs.Circuits.{Gates, sum, difference, borrow_out, carries_differ, borrows_differ, equal, zeros, extended, choose}
+use Rattle.law_blasting.specs.Circuits.{up, down, shift, with_top}
+use Rattle.law_terms.specs.Plain.{BoolType, PlainOp, AndOp, BitsOp, BvnegOp, BvnegoOp, EqOp, IteOp, NotOp, OrOp, OverflowOp, TestOp}
+use Rattle.law_terms.specs.Plain.{ZeroExtendOp, BoolLiteral, PlainTerm, Application, LiteralTerm, terms}
 
 -- gates that are Boolean terms
 abbrev pub term_gates : Gates PlainTerm

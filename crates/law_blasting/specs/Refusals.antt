@@ -3,7 +3,9 @@ use Rattle.std.specs.Prelude.{Bool, true, false, List, [], ◌∷◌, Option, So
 use Rattle.std.specs.Option.{option_or}
 use Rattle.law_numbers.specs.BitOperators.{BitsOperator, BvaddOp, BvlshrOp, BvshlOp, BvsubOp, OverflowOperator, BvsaddoOp, BvssuboOp}
 use Rattle.law_terms.specs.Types.{literal_type, type_of}
-use Rattle.law_terms.specs.Plain.{PlainType, BitVecType, BoolType, PlainOp, AndOp, BitsOp, BvnegOp, BvnegoOp, EqOp, IteOp, NotOp, OrOp, OverflowOp, TestOp, ZeroExtendOp, PlainTerm, Application, LiteralTerm, VariableTerm, PlainTerms, no_terms, one_term}
+use Rattle.law_terms.specs.Plain.{PlainType, BitVecType, BoolType, PlainOp, AndOp, BitsOp, BvnegOp, BvnegoOp, EqOp, IteOp, NotOp, OrOp}
+use Rattle.law_terms.specs.Plain.{OverflowOp, TestOp, ZeroExtendOp, PlainTerm, Application, LiteralTerm, VariableTerm, PlainTerms, no_terms}
+use Rattle.law_terms.specs.Plain.{one_term}
 
 -- why a term is not blasted: an operator without a circuit, or a type that is neither Bool nor bitvectors
 pub data Refusal : Type 0 where

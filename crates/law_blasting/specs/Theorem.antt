@@ -38,12 +38,17 @@ pub record AreFaithful (enums : Enums) (ts : List PlainTerm) : Type 0 where
   pub without_fault : first_fault [] (new_roots ts) ≡ None
   pub terms : AllByRecursion (IsBooleanOver (names_of ts)) (new_roots ts)
   -- the bits of an interpretation of the old terms are one of the new, which get the same values
-  pub forth : (I : Interpretation) → IsInterpretation enums ts I → IsInterpretation [] (new_roots ts) (bits (variables_of ts) I) × (map (term_value (bits (variables_of ts) I)) (new_roots ts) ≡ map (term_value I) ts)
+  pub forth : (I : Interpretation) → IsInterpretation enums ts I →
+      IsInterpretation [] (new_roots ts) (bits (variables_of ts) I)
+      × (map (term_value (bits (variables_of ts) I)) (new_roots ts) ≡ map (term_value I) ts)
   -- an interpretation of the new terms is, on what these reach, the bits of one of the old, which get the same values
-  pub back : (J : Interpretation) → IsInterpretation [] (new_roots ts) J → IsInterpretation enums ts (unbits (variables_of ts) J) × Agree (new_roots ts) (bits (variables_of ts) (unbits (variables_of ts) J)) J × (map (term_value J) (new_roots ts) ≡ map (term_value (unbits (variables_of ts) J)) ts)
+  pub back : (J : Interpretation) → IsInterpretation [] (new_roots ts) J →
+      IsInterpretation enums ts (unbits (variables_of ts) J) × Agree (new_roots ts) (bits (variables_of ts) (unbits (variables_of ts) J)) J
+      × (map (term_value J) (new_roots ts) ≡ map (term_value (unbits (variables_of ts) J)) ts)
   -- so the old terms are true together exactly where the new ones are
   pub together : (I : Interpretation) → IsInterpretation enums ts I → AreTrue I ts ↔ AreTrue (bits (variables_of ts) I) (new_roots ts)
-  pub together_back : (J : Interpretation) → IsInterpretation [] (new_roots ts) J → AreTrue J (new_roots ts) ↔ AreTrue (unbits (variables_of ts) J) ts
+  pub together_back : (J : Interpretation) → IsInterpretation [] (new_roots ts) J →
+      AreTrue J (new_roots ts) ↔ AreTrue (unbits (variables_of ts) J) ts
 
 -- The new terms of all old ones that are Boolean, formed and without refusal are faithful to them.
 abbrev pub BlastIsFaithful : Type 0

@@ -1,10 +1,24 @@
 //! Laws of circuits and of blasted terms, proved with no code.
-ghost use Rattle.law_blasting.specs.CircuitLaws.{BitsHaveNumbers, DifferencesAreTaken, DifferencesOverflow, ExtensionsKeep, LessIsBorrowed, LessIsSigned, NegationsAreTaken, NegationsOverflow, NumbersAreCompared, NumbersHaveBits, ShiftsGoDown, ShiftsGoUp, SumsAreAdded, SumsOverflow};
+ghost use Rattle.law_blasting.specs.CircuitLaws.{BitsHaveNumbers, DifferencesAreTaken};
+ghost use Rattle.law_blasting.specs.CircuitLaws.{DifferencesOverflow, ExtensionsKeep};
+ghost use Rattle.law_blasting.specs.CircuitLaws.{LessIsBorrowed};
+ghost use Rattle.law_blasting.specs.CircuitLaws.{LessIsSigned, NegationsAreTaken};
+ghost use Rattle.law_blasting.specs.CircuitLaws.{NegationsOverflow, NumbersAreCompared};
+ghost use Rattle.law_blasting.specs.CircuitLaws.{NumbersHaveBits};
+ghost use Rattle.law_blasting.specs.CircuitLaws.{ShiftsGoDown, ShiftsGoUp, SumsAreAdded};
+ghost use Rattle.law_blasting.specs.CircuitLaws.{SumsOverflow};
 ghost use Rattle.law_blasting.specs.Sizes.{ShiftsAreSmall};
-ghost use Rattle.law_blasting.specs.Examples.{BlastedRows};
-ghost use Rattle.law_blasting.specs.Laws.{BitsAreBooleans, BitsAreOneToOne, BitsAreOnto, BlastKeepsValues, BlastedTermsAreTyped, FormsStay, NewNamesDiffer, OperatorCircuitsPass, RootsKeepValues, TermCircuitsPass, TermGatesPass};
-ghost use Rattle.law_blasting.specs.NewTerms.{BooleanTermsAreFormed, BooleanTermsHaveNoFault, BooleansInterpret, NewTermsAreBoolean};
-ghost use Rattle.law_blasting.specs.Numbering.{ListsAreWalked, NumbersStay, VariablesAreDistinct, VariablesAreNumbered, VariablesAreSupported, WalksAddNothing, WalksAreStated, WalksNumber};
+ghost use Rattle.law_blasting.specs.Rows.{BlastedRows};
+ghost use Rattle.law_blasting.specs.Laws.{BitsAreBooleans, BitsAreOneToOne, BitsAreOnto};
+ghost use Rattle.law_blasting.specs.Laws.{BlastKeepsValues, BlastedTermsAreTyped, FormsStay};
+ghost use Rattle.law_blasting.specs.Laws.{NewNamesDiffer, OperatorCircuitsPass, RootsKeepValues};
+ghost use Rattle.law_blasting.specs.Laws.{TermCircuitsPass, TermGatesPass};
+ghost use Rattle.law_blasting.specs.NewTerms.{BooleanTermsAreFormed, BooleanTermsHaveNoFault};
+ghost use Rattle.law_blasting.specs.NewTerms.{BooleansInterpret, NewTermsAreBoolean};
+ghost use Rattle.law_blasting.specs.Numbering.{ListsAreWalked, NumbersStay, VariablesAreDistinct};
+ghost use Rattle.law_blasting.specs.Numbering.{VariablesAreNumbered};
+ghost use Rattle.law_blasting.specs.Numbering.{VariablesAreSupported, WalksAddNothing};
+ghost use Rattle.law_blasting.specs.Numbering.{WalksAreStated, WalksNumber};
 ghost use Rattle.law_blasting.specs.Theorem.{BlastIsFaithful};
 
 /// The bits of a number are that number, and the number of bits has these bits.

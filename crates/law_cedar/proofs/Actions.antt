@@ -14,7 +14,7 @@ use Rattle.law_terms.proofs.ValueOrder.{text_same}
 use Rattle.law_terms.specs.Plain.{PlainType, EntityType, SetType, PlainTerm}
 use Rattle.law_terms.specs.TermOrder.{term_cmp, term_eq}
 use Rattle.law_terms.specs.ValueOrder.{text_cmp}
-use Rattle.smt_types.proofs.LastPairs.{last_pairs}
+use Rattle.smt_term.proofs.LastPairs.{last_pairs}
 use Rattle.smt_values.specs.Plain.{PlainAction}
 use Rattle.smt_values.specs.Stores.{action_of}
 use Rattle.smt_values.specs.Uids.{Uid, same_uid}

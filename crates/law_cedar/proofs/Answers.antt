@@ -5,13 +5,13 @@ use Rattle.law_terms.specs.Plain.{PlainType, PlainTerm}
 use Rattle.law_terms.specs.Values.{Value}
 use Rattle.smt_term.specs.View.{plain_term}
 use Rattle.smt_term.specs.declared.term.Term.{Term}
-use Rattle.smt_cedar.specs.TypeView.{plain_cedar}
-use Rattle.smt_cedar.specs.declared.compile_error.CompileError.{CompileError as TypeError}
-use Rattle.smt_cedar.specs.declared.compile_error.CompileError.TheVariants as types
-use Rattle.smt_cedar.specs.declared.cedar_type.CedarType.{CedarType}
-use Rattle.smt_cedar.specs.Plain.{PlainValue}
-use Rattle.smt_cedar.specs.declared.ext_error.ExtError.{ExtError as ValueError}
-use Rattle.smt_cedar.specs.declared.ext_error.ExtError.TheVariants as values
+use Rattle.smt_values.specs.TypeView.{plain_cedar}
+use Rattle.smt_values.specs.declared.compile_error.CompileError.{CompileError as TypeError}
+use Rattle.smt_values.specs.declared.compile_error.CompileError.TheVariants as types
+use Rattle.smt_values.specs.declared.cedar_type.CedarType.{CedarType}
+use Rattle.smt_values.specs.PlainValues.{PlainValue}
+use Rattle.smt_values.specs.declared.ext_error.ExtError.{ExtError as ValueError}
+use Rattle.smt_values.specs.declared.ext_error.ExtError.TheVariants as values
 use Rattle.smt_values.specs.Outcomes.{Outcome}
 use Rattle.smt_values.specs.Refused.{IsNoExtension, IsRefusal, IsUnsupported}
 use Rattle.smt_values.specs.TermOfValue.{term_of_value}

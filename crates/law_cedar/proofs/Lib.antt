@@ -1,12 +1,12 @@
 mod Actions
 pub mod Answers
-mod Examples
 pub mod Meanings
 mod Members
 mod Outcomes
 pub mod Program
 pub mod ProgramTypes
+mod Rows
 mod Stored
 mod Types
-mod ValueExamples
+mod ValueRows
 pub mod Whole

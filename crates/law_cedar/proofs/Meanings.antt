@@ -20,16 +20,16 @@ use Rattle.law_terms.specs.Typing.{AreOfType, typed_fields}
 use Rattle.law_terms.specs.ValueOrder.{ascends, set_of, text_cmp}
 use Rattle.law_terms.specs.Values.{Value, NoneValue, SomeValue, RecordValue as ValueOfRecord, FieldValues, one_field_value}
 use Rattle.law_terms.proofs.SortedSets.{all-terms}
-use Rattle.smt_cedar.specs.Cedar.{PlainCedar, AnyBoolType, OneBoolType, LongType, TextType, SetType as CedarSetType, EmptySetType, ClosedRecordType, OpenRecordType, AnyEntityType, EntityOfType, ExtensionNamed, CedarAttributes, no_attributes, attribute as cedar_attribute}
-use Rattle.smt_cedar.specs.TypeOfCedar.{Stated, extension_named, held as type_as_held, last_name, type_of_cedar, type_of_entities, type_of_kind, types_of_attributes}
-use Rattle.smt_cedar.specs.Constructors.{value_of_expression}
-use Rattle.smt_cedar.specs.Plain.{TruthOf, LongOf, TextOf, EntityOf, PlainValue, LiteralValue, SetValue, RecordValue, ExtensionValue, PlainValues, no_values, one_value, PlainFields, no_fields, one_field}
+use Rattle.smt_values.specs.Cedar.{PlainCedar, AnyBoolType, OneBoolType, LongType, TextType, SetType as CedarSetType, EmptySetType, ClosedRecordType, OpenRecordType, AnyEntityType, EntityOfType, ExtensionNamed, CedarAttributes, no_attributes, attribute as cedar_attribute}
+use Rattle.smt_values.specs.TypeOfCedar.{Stated, extension_named, held as type_as_held, last_name, type_of_cedar, type_of_entities, type_of_kind, types_of_attributes}
+use Rattle.smt_values.specs.Constructors.{value_of_expression}
+use Rattle.smt_values.specs.PlainValues.{TruthOf, LongOf, TextOf, EntityOf, PlainValue, LiteralValue, SetValue, RecordValue, ExtensionValue, PlainValues, no_values, one_value, PlainFields, no_fields, one_field}
 use Rattle.smt_values.specs.Outcomes.{Outcome, ◌>>=◌, converted}
 use Rattle.smt_values.specs.TermOfValue.{extension_term, field_named, term_held, term_of_attribute, term_of_value, terms_of_attributes, terms_of_elements}
 use Rattle.law_cedar.specs.CedarMeaning.{attribute_meaning, attribute_meanings, cedar_value, elements_of, extension_meaning, value_named}
 use Rattle.law_cedar.specs.CedarTyping.{AreInOrder, HasAttributes, IsInOrder, IsOfAttribute, IsOfExtension, IsOfType, names_of_type}
 use Rattle.law_cedar.specs.ValueLaws.{IsLiteralOf, TermsHaveMeanings}
-use Rattle.smt_values.proofs.Ascending.{pairs_in_order}
+use Rattle.smt_term.proofs.InOrder.{pairs_in_order}
 use Rattle.law_cedar.proofs.Types.{IsAttributeBefore, IsRecordOfTypes, IsSetOfType, attribute_stated, one_stated, record_stated, set_stated}
 
 -- what is stated is a literal of this type that has this value

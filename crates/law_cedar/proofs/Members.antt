@@ -4,13 +4,12 @@ use Rattle.std.proofs.lemmas.List.{reverse-append}
 use Rattle.std.specs.Cmp.{IsTotalOrder, first_so, second_so, tied_itself}
 use Rattle.std.specs.List.{AllByRecursion, filter, flat_map}
 use Rattle.std.specs.Map.{keys_of, lookup}
-use Rattle.std.specs.Ordering.{is_lt}
 use Rattle.std.specs.Prelude.{◌⊎◌, Contains, slice_index_or}
 use Rattle.std.specs.declared.cmp.Ordering.{Ordering}
-use Rattle.std.specs.declared.cmp.Ordering.TheVariants.{Less, Equal, Greater}
+use Rattle.std.specs.declared.cmp.Ordering.TheVariants.{Less, Equal}
 use mathlib.Core.Logic.{inl, inr, ⊎_elim}
 use Rattle.law_terms.specs.ValueOrder.{ascends, is_below}
-use Rattle.law_terms.proofs.Sorted.{IsIn}
+use Rattle.law_terms.proofs.Sorted.{IsIn, less-is}
 
 -- ---- the library's words, by recursion
 
@@ -110,17 +109,12 @@ module _ {K X : Type 0} (test : K → Bool) (k : K) (x : X) (itself : test k ≡
 
 -- ---- keys that ascend, and entities of which no uid stands twice
 
-less_is : (o : Ordering) → is_lt o ≡ true → o ≡ Less
-less_is Less h = refl
-less_is Equal h = cc
-less_is Greater h = cc
-
 module _ {K : Type 0} (cmp : K → K → Ordering) (o : IsTotalOrder cmp) where
   -- what stands behind the first is greater
   behind : (x : K) (ys : List K) (z : K) → is_below cmp x ys ≡ true → ascends cmp ys ≡ true → IsIn z ys → cmp x z ≡ Less
   behind x [] z h g k = absurd k
   behind x (y ∷ ys) z h g k =
-      ⊎_elim (λ e. ap (λ u. cmp x u) e ∙ less_is (cmp x y) h) (λ m. o.trans x y z (less_is (cmp x y) h) (behind y ys z (first_so (is_below cmp y ys) (ascends cmp ys) g) (second_so (is_below cmp y ys) (ascends cmp ys) g) m)) k
+      ⊎_elim (λ e. ap (λ u. cmp x u) e ∙ less-is (cmp x y) h) (λ m. o.trans x y z (less-is (cmp x y) h) (behind y ys z (first_so (is_below cmp y ys) (ascends cmp ys) g) (second_so (is_below cmp y ys) (ascends cmp ys) g) m)) k
 
   not_less : (x : K) → cmp x x ≡ Less → ⊥
   not_less x h = let e : cmp x x ≡ Equal = tied_itself o x in let f : Less ≡ Equal = sym h ∙ e in cc

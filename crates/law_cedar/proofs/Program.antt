@@ -5,8 +5,8 @@ use Rattle.std.specs.Map.{keys_of}
 use Rattle.std.specs.Prelude.{IsTrue}
 use mathlib.Core.List.{map-map}
 use Rattle.law_terms.specs.ValueOrder.{ascends, text_cmp}
-use Rattle.smt_cedar.specs.ValueView.{known_field, known_fields, parts_held}
-use Rattle.smt_cedar.specs.declared.value.PartialMap.{PartialMap}
+use Rattle.smt_values.specs.ValueView.{known_field, known_fields, parts_held}
+use Rattle.smt_values.specs.declared.value.PartialMap.{PartialMap}
 use Rattle.smt_values.specs.Uids.{same_uid}
 use Rattle.smt_values.specs.View.{entry_named, plain_stored}
 use Rattle.smt_values.specs.declared.entity.Entity.{Entity}

@@ -3,17 +3,17 @@ use Rattle.std.proofs.Common.{ℕ, List, [], ◌∷◌, IsTrue, refl}
 use Rattle.std.specs.Cmp.{first_so, second_so}
 use Rattle.std.specs.Cmp.Derive.{both_true}
 use Rattle.law_terms.specs.ValueOrder.{ascends, is_below, text_cmp}
-use Rattle.smt_cedar.specs.Cedar.{CedarAttributes}
-use Rattle.smt_cedar.specs.TypeView.{plain_bool, plain_cedar, plain_cedar_attributes, plain_entity, plain_row, plain_set, record_with}
-use Rattle.smt_cedar.specs.AttributeMaps.{attributes_of}
-use Rattle.smt_cedar.specs.declared.attributes.Attributes.{Attributes, Attributes', Row_of-AttributeType, end_of-AttributeType, more_of-AttributeType}
-use Rattle.smt_cedar.specs.declared.cedar_type.BoolType.{BoolType}
-use Rattle.smt_cedar.specs.declared.cedar_type.BoolType.TheVariants.{AnyBool, True, False}
-use Rattle.smt_cedar.specs.declared.cedar_type.EntityKind.{EntityKind}
-use Rattle.smt_cedar.specs.declared.cedar_type.EntityKind.TheVariants.{AnyEntity, Entity as EntityAmong}
-use Rattle.smt_cedar.specs.declared.cedar_type.OpenTag.{OpenTag}
-use Rattle.smt_cedar.specs.declared.cedar_type.OpenTag.TheVariants.{OpenAttributes, ClosedAttributes}
-use Rattle.smt_cedar.specs.declared.cedar_type.CedarType.{CedarType, Never, Bool as BoolOf, Long, String, Set', Record as RecordOf, Entity, ExtensionType, Held-CedarType-Set-0, None', Some'}
+use Rattle.smt_values.specs.Cedar.{CedarAttributes}
+use Rattle.smt_values.specs.TypeView.{plain_bool, plain_cedar, plain_cedar_attributes, plain_entity, plain_row, plain_set, record_with}
+use Rattle.smt_values.specs.AttributeMaps.{attributes_of}
+use Rattle.smt_values.specs.declared.attributes.Attributes.{Attributes, Attributes', Row_of-AttributeType, end_of-AttributeType, more_of-AttributeType}
+use Rattle.smt_values.specs.declared.cedar_type.BoolType.{BoolType}
+use Rattle.smt_values.specs.declared.cedar_type.BoolType.TheVariants.{AnyBool, True, False}
+use Rattle.smt_values.specs.declared.cedar_type.EntityKind.{EntityKind}
+use Rattle.smt_values.specs.declared.cedar_type.EntityKind.TheVariants.{AnyEntity, Entity as EntityAmong}
+use Rattle.smt_values.specs.declared.cedar_type.OpenTag.{OpenTag}
+use Rattle.smt_values.specs.declared.cedar_type.OpenTag.TheVariants.{OpenAttributes, ClosedAttributes}
+use Rattle.smt_values.specs.declared.cedar_type.CedarType.{CedarType, Never, Bool as BoolOf, Long, String, Set', Record as RecordOf, Entity, ExtensionType, Held-CedarType-Set-0, None', Some'}
 use Rattle.law_cedar.specs.CedarTyping.{AreInOrder, IsInOrder, names_of_type}
 use Rattle.law_cedar.specs.ValueLaws.{ProgramTypesAreInOrder}
 

@@ -13,8 +13,8 @@ use mathlib.Core.Logic.{⊎_elim}
 use Rattle.law_folding.specs.Builder.{folding}
 use Rattle.law_folding.specs.FoldFunctions.{choice_by, entry_at, folded_app}
 use Rattle.law_folding.specs.FoldRecords.{tag_record}
-use Rattle.smt_types.proofs.LastPairs.{last_pairs}
-use Rattle.smt_types.specs.SortedPairs.{sorted_pairs}
+use Rattle.smt_term.proofs.LastPairs.{last_pairs}
+use Rattle.smt_term.specs.SortedPairs.{sorted_pairs}
 use Rattle.law_terms.proofs.SameTerm.{term_same}
 use Rattle.law_terms.proofs.Sorted.{IsIn}
 use Rattle.law_terms.proofs.TermTotal.{terms_decided, terms_total}
@@ -25,10 +25,10 @@ use Rattle.law_terms.specs.Plain.{PlainType, EntityType, StringType, SetType, Pl
 use Rattle.law_terms.specs.TermOrder.{term_cmp, term_eq}
 use Rattle.law_terms.specs.TermSets.{set_term}
 use Rattle.law_terms.specs.ValueOrder.{ascends, text_cmp}
-use Rattle.smt_types.specs.TypeKinds.{tag_type}
-use Rattle.smt_cedar.specs.Cedar.{PlainCedar, ClosedRecordType, CedarAttributes}
-use Rattle.smt_cedar.specs.TypeOfCedar.{type_of_cedar}
-use Rattle.smt_cedar.specs.Plain.{PlainValue}
+use Rattle.smt_term.specs.TypeKinds.{tag_type}
+use Rattle.smt_values.specs.Cedar.{PlainCedar, ClosedRecordType, CedarAttributes}
+use Rattle.smt_values.specs.TypeOfCedar.{type_of_cedar}
+use Rattle.smt_values.specs.PlainValues.{PlainValue}
 use Rattle.smt_values.specs.Plain.{PlainEntity}
 use Rattle.smt_values.specs.Uids.{Uid, same_uid}
 use Rattle.smt_values.specs.Outcomes.{◌>>=◌, converted, each}

@@ -1,8 +1,8 @@
 -- Which types of terms stand for set types, record types and attributes.
 use Rattle.std.proofs.Common.{◌≡◌, ℕ, Bool, List, Ok, Err, refl, sym, ap, ◌∙◌}
 use Rattle.law_terms.specs.Plain.{PlainType, RecordType, SetType, AttributeTypes, attribute}
-use Rattle.smt_cedar.specs.Cedar.{PlainCedar, SetType as CedarSetType, ClosedRecordType, CedarAttributes, attribute as cedar_attribute}
-use Rattle.smt_cedar.specs.TypeOfCedar.{Stated, ◌>>=◌, held, type_held, type_of_cedar, types_of_attributes}
+use Rattle.smt_values.specs.Cedar.{PlainCedar, SetType as CedarSetType, ClosedRecordType, CedarAttributes, attribute as cedar_attribute}
+use Rattle.smt_values.specs.TypeOfCedar.{Stated, ◌>>=◌, held, type_held, type_of_cedar, types_of_attributes}
 
 -- ---- what is stated
 

@@ -5,12 +5,12 @@ use Rattle.std.specs.Map.{lookup}
 use Rattle.std.specs.Prelude.{ℕ, bytes_eq}
 use mathlib.Core.Logic.{⊎_elim}
 use Rattle.law_folding.specs.FoldFunctions.{folded_app}
-use Rattle.smt_types.specs.SortedPairs.{sorted_pairs}
+use Rattle.smt_term.specs.SortedPairs.{sorted_pairs}
 use Rattle.law_terms.proofs.Sorted.{IsIn}
 use Rattle.law_terms.specs.Plain.{PlainType, PlainTerm}
 use Rattle.law_terms.specs.ValueOrder.{text_cmp}
-use Rattle.smt_cedar.specs.Cedar.{PlainCedar, ClosedRecordType, CedarAttributes}
-use Rattle.smt_cedar.specs.Plain.{RecordValue, value_fields}
+use Rattle.smt_values.specs.Cedar.{PlainCedar, ClosedRecordType, CedarAttributes}
+use Rattle.smt_values.specs.PlainValues.{RecordValue, value_fields}
 use Rattle.smt_values.specs.Plain.{PlainEntity, PlainEntry, StandardType, PlainAction, PlainSchema, PlainRequestEnv, PlainRequest, PlainEnv}
 use Rattle.smt_values.specs.Stores.{action_of, is_of_schema}
 use Rattle.smt_values.specs.DefaultTerm.{default_term}

@@ -7,10 +7,13 @@ use Rattle.std.specs.Str.{chars}
 use Rattle.law_numbers.specs.BitVectors.{bits_of}
 use Rattle.law_numbers.specs.Extensions.{PlainExtension}
 use Rattle.law_terms.specs.ValueOrder.{set_of}
-use Rattle.law_terms.specs.Values.{Value, BoolValue, BitVecValue, StringValue, EntityValue, ExtensionValue, NoneValue, SomeValue, RecordValue, FieldValues, no_field_values, one_field_value}
-use Rattle.smt_cedar.specs.Cedar.{PlainCedar, SetType, ClosedRecordType, CedarAttributes, no_attributes, attribute}
-use Rattle.smt_cedar.specs.Constructors.{value_of_expression}
-use Rattle.smt_cedar.specs.Plain.{CedarLiteral, TruthOf, LongOf, TextOf, EntityOf, PlainValue, LiteralValue, SetValue as CedarSet, RecordValue as CedarRecord, ExtensionValue as CedarExtension, PlainValues, no_values, one_value, PlainFields, no_fields, one_field}
+use Rattle.law_terms.specs.Values.{Value, BoolValue, BitVecValue, StringValue, EntityValue, ExtensionValue, NoneValue, SomeValue}
+use Rattle.law_terms.specs.Values.{RecordValue, FieldValues, no_field_values, one_field_value}
+use Rattle.smt_values.specs.Cedar.{PlainCedar, SetType, ClosedRecordType, CedarAttributes, no_attributes, attribute}
+use Rattle.smt_values.specs.Constructors.{value_of_expression}
+use Rattle.smt_values.specs.PlainValues.{CedarLiteral, TruthOf, LongOf, TextOf, EntityOf, PlainValue, LiteralValue, SetValue as CedarSet}
+use Rattle.smt_values.specs.PlainValues.{RecordValue as CedarRecord, ExtensionValue as CedarExtension, PlainValues, no_values, one_value}
+use Rattle.smt_values.specs.PlainValues.{PlainFields, no_fields, one_field}
 use Rattle.law_terms.specs.Interpretations.{unused_value}
 
 -- ---- literals and values of extension types: they mean the same at every type

@@ -4,10 +4,12 @@ use Rattle.std.specs.List.{AllByRecursion}
 use Rattle.law_numbers.specs.Extensions.{PlainExtension}
 use Rattle.law_terms.specs.Types.{kind_of}
 use Rattle.law_terms.specs.ValueOrder.{ascends, text_cmp}
-use Rattle.smt_cedar.specs.Cedar.{PlainCedar, AnyBoolType, OneBoolType, LongType, TextType, SetType, EmptySetType, ClosedRecordType, OpenRecordType, AnyEntityType, EntityOfType, ExtensionNamed, CedarAttributes, no_attributes, attribute}
-use Rattle.smt_cedar.specs.TypeOfCedar.{extension_named, last_name}
-use Rattle.smt_cedar.specs.Constructors.{value_of_expression}
-use Rattle.smt_cedar.specs.Plain.{TruthOf, LongOf, TextOf, EntityOf, PlainValue, LiteralValue, SetValue, RecordValue, ExtensionValue, no_values, PlainFields}
+use Rattle.smt_values.specs.Cedar.{PlainCedar, AnyBoolType, OneBoolType, LongType, TextType, SetType, EmptySetType, ClosedRecordType}
+use Rattle.smt_values.specs.Cedar.{OpenRecordType, AnyEntityType, EntityOfType, ExtensionNamed, CedarAttributes, no_attributes, attribute}
+use Rattle.smt_values.specs.TypeOfCedar.{extension_named, last_name}
+use Rattle.smt_values.specs.Constructors.{value_of_expression}
+use Rattle.smt_values.specs.PlainValues.{TruthOf, LongOf, TextOf, EntityOf, PlainValue, LiteralValue, SetValue, RecordValue, ExtensionValue}
+use Rattle.smt_values.specs.PlainValues.{no_values, PlainFields}
 use Rattle.law_cedar.specs.CedarMeaning.{elements_of, fields_of, value_named}
 
 -- ---- parts
@@ -54,7 +56,8 @@ abbrev mutual
   -- a record of these fields has each of the attributes
   pub HasAttributes : CedarAttributes → PlainFields → Type 0
   HasAttributes no_attributes held = ⊤
-  HasAttributes (attribute name type required others) held = IsOfAttribute (IsOfType type) required (value_named name held) × HasAttributes others held
+  HasAttributes (attribute name type required others) held =
+      IsOfAttribute (IsOfType type) required (value_named name held) × HasAttributes others held
 
 -- ---- types in order
 

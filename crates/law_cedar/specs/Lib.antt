@@ -1,9 +1,9 @@
 pub mod CedarMeaning
 pub mod CedarTyping
-pub mod Examples
 pub mod Laws
 pub mod Plain
+pub mod Rows
 pub mod Symbolized
 pub mod Tables
-pub mod ValueExamples
 pub mod ValueLaws
+pub mod ValueRows

@@ -1,15 +1,16 @@
 -- The symbolic environment of a schema, a request and a store, or its first fault.
 use Rattle.std.specs.Prelude.{ℕ, Bool, bytes_eq, cond, not, List, [], ◌++◌, Option, Some, None, Ok, Err, map}
 use Rattle.std.specs.List.{filter, filter_map, list_any}
-use Rattle.smt_types.specs.SortedPairs.{sorted_pairs}
-use Rattle.smt_types.specs.TextSets.{sorted_texts}
+use Rattle.smt_term.specs.SortedPairs.{sorted_pairs}
+use Rattle.smt_term.specs.TextSets.{sorted_texts}
 use Rattle.law_terms.specs.Functions.{PlainUnary}
 use Rattle.law_terms.specs.Plain.{PlainType, EntityType, RecordType, SetType, no_attributes, PlainTerm}
 use Rattle.law_terms.specs.TypeValues.{Enums}
 use Rattle.law_terms.specs.ValueOrder.{text_cmp}
-use Rattle.smt_cedar.specs.Cedar.{PlainCedar, ClosedRecordType, CedarAttributes}
-use Rattle.smt_cedar.specs.Plain.{RecordValue, value_fields}
-use Rattle.smt_values.specs.Plain.{PlainEntity, PlainEntry, StandardType, EnumType, PlainAction, PlainSchema, PlainRequestEnv, PlainRequest, PlainEnv}
+use Rattle.smt_values.specs.Cedar.{PlainCedar, ClosedRecordType, CedarAttributes}
+use Rattle.smt_values.specs.PlainValues.{RecordValue, value_fields}
+use Rattle.smt_values.specs.Plain.{PlainEntity, PlainEntry, StandardType, EnumType, PlainAction, PlainSchema, PlainRequestEnv, PlainRequest}
+use Rattle.smt_values.specs.Plain.{PlainEnv}
 use Rattle.smt_values.specs.Stores.{action_of, is_of_schema}
 use Rattle.smt_values.specs.DefaultTerm.{default_term}
 use Rattle.smt_values.specs.Outcomes.{Outcome, ◌>>=◌, each, ForeignRequest, IncompleteRequest}
@@ -46,7 +47,8 @@ enum_entry (type, EnumType ids) = Some (type, ids)
 
 -- the types whose entities are listed, each with its members: enum types, and types of actions with the ids of the actions
 abbrev pub listed_types : PlainSchema → Enums
-listed_types schema = filter_map enum_entry (own_types schema) ++ map (λ type. (type, action_ids schema.actions type)) (action_types schema.actions)
+listed_types schema =
+    filter_map enum_entry (own_types schema) ++ map (λ type. (type, action_ids schema.actions type)) (action_types schema.actions)
 
 -- an action with the set of its ancestors that are of one type
 abbrev pub action_entry : (kind : List ℕ) → PlainAction → PlainTerm × PlainTerm
@@ -70,7 +72,8 @@ module _ (default : PlainType → PlainTerm) where
 
   -- What is said of a standard type: its stored attributes, its ancestors by each type that the schema lists, and its tags. Its
   -- entities are not listed.
-  abbrev pub standard_data : (type : List ℕ) → (kinds : List (List ℕ)) → CedarAttributes → Option PlainCedar → List PlainEntity → Outcome PlainData
+  abbrev pub standard_data : (type : List ℕ) → (kinds : List (List ℕ)) → CedarAttributes → Option PlainCedar → List PlainEntity →
+      Outcome PlainData
   standard_data type kinds attributes value entities =
       attributes_table default type attributes entities >>= λ own. tags_held type value entities >>= λ tags. Ok (record {
         attributes = own;
@@ -91,7 +94,8 @@ module _ (default : PlainType → PlainTerm) where
   -- the table of ancestors of a type of actions: for an action the set of its ancestors of the type `kind`; of two entries with
   -- one uid the last counts
   abbrev pub action_table : List PlainAction → (type kind : List ℕ) → PlainUnary
-  action_table actions type kind = table_of default (EntityType type) (SetType (EntityType kind)) (map (action_entry kind) (actions_of type actions))
+  action_table actions type kind =
+      table_of default (EntityType type) (SetType (EntityType kind)) (map (action_entry kind) (actions_of type actions))
 
   -- what is said of a type of actions: no attributes and tags, the ancestors of each type of actions, and the ids of its actions
   abbrev pub action_data : List PlainAction → (type : List ℕ) → PlainData
@@ -105,7 +109,8 @@ module _ (default : PlainType → PlainTerm) where
   -- what is said of all types, in the order of their bytes: entity types as the schema has them, and types of actions
   abbrev pub entities_of : PlainSchema → List PlainEntity → Outcome PlainEntities
   entities_of schema entities =
-      each (typed_data entities) (own_types schema) >>= λ held. Ok (sorted_pairs text_cmp (held ++ map (λ type. (type, action_data schema.actions type)) (action_types schema.actions)))
+      each (typed_data entities) (own_types schema) >>=
+      λ held. Ok (sorted_pairs text_cmp (held ++ map (λ type. (type, action_data schema.actions type)) (action_types schema.actions)))
 
 -- ---- requests
 
@@ -116,7 +121,8 @@ action_found None = Err ForeignRequest
 
 -- the last entry of the action that was asked for, where the schema lists the types of principal and resource for it
 abbrev pub action_asked : PlainSchema → PlainRequestEnv → Outcome PlainAction
-action_asked schema request = cond (is_of_schema schema request) (action_found (action_of schema.actions request.action)) (Err ForeignRequest)
+action_asked schema request =
+    cond (is_of_schema schema request) (action_found (action_of schema.actions request.action)) (Err ForeignRequest)
 
 -- a part of a request that is known, or else the fault that the request is not whole
 abbrev pub known_part : {A : Type 0} → Option A → Outcome A
@@ -126,7 +132,9 @@ known_part None = Err IncompleteRequest
 -- the terms of a request whose context has these attributes
 abbrev pub request_of : CedarAttributes → PlainRequest → Outcome PlainSymbolicRequest
 request_of attributes request =
-    known_part request.principal >>= λ principal. known_part request.action >>= λ action. known_part request.resource >>= λ resource. known_part request.context >>= λ fields.
+    known_part request.principal >>=
+    λ principal.
+    known_part request.action >>= λ action. known_part request.resource >>= λ resource. known_part request.context >>= λ fields.
     term_of_value (ClosedRecordType attributes) (RecordValue (value_fields fields)) >>= λ context. Ok (record {
       principal = entity_term principal;
       action = entity_term action;
@@ -140,7 +148,10 @@ request_of attributes request =
 -- give these defaults of types
 abbrev pub environment_with : (PlainType → PlainTerm) → PlainRequestEnv → PlainSchema → PlainEnv → Outcome PlainSymbolicEnvironment
 environment_with default asked schema env =
-    action_asked schema asked >>= λ action. request_of action.context env.request >>= λ request. entities_of default schema env.entities >>= λ entities. Ok (record { request = request; entities = entities })
+    action_asked schema asked >>=
+    λ action.
+    request_of action.context env.request >>=
+    λ request. entities_of default schema env.entities >>= λ entities. Ok (record { request = request; entities = entities })
 
 -- The symbolic environment of a schema, a request environment and a store with a request, or their first fault. The request
 -- environment has to be the schema's, and the request whole; then come the context, and the entity types in the order of their

@@ -3,16 +3,16 @@ use Rattle.std.specs.Prelude.{ℕ, bytes_eq, List, Option, Some, None, Ok, Err, 
 use Rattle.std.specs.List.{filter, flat_map}
 use Rattle.std.specs.Map.{keys_of}
 use Rattle.law_folding.specs.FoldRecords.{tag_record}
-use Rattle.smt_types.specs.SortedPairs.{sorted_pairs}
+use Rattle.smt_term.specs.SortedPairs.{sorted_pairs}
 use Rattle.law_terms.specs.Functions.{PlainUnary, Defined}
 use Rattle.law_terms.specs.Plain.{PlainType, EntityType, StringType, SetType, PlainTerm, LiteralTerm, EntityLiteral, StringLiteral}
 use Rattle.law_terms.specs.TermOrder.{term_cmp}
 use Rattle.law_terms.specs.TermSets.{set_term}
 use Rattle.law_terms.specs.ValueOrder.{text_cmp}
-use Rattle.smt_types.specs.TypeKinds.{tag_type}
-use Rattle.smt_cedar.specs.Cedar.{PlainCedar, ClosedRecordType, CedarAttributes}
-use Rattle.smt_cedar.specs.TypeOfCedar.{type_of_cedar}
-use Rattle.smt_cedar.specs.Plain.{PlainValue, RecordValue, value_fields}
+use Rattle.smt_term.specs.TypeKinds.{tag_type}
+use Rattle.smt_values.specs.Cedar.{PlainCedar, ClosedRecordType, CedarAttributes}
+use Rattle.smt_values.specs.TypeOfCedar.{type_of_cedar}
+use Rattle.smt_values.specs.PlainValues.{PlainValue, RecordValue, value_fields}
 use Rattle.smt_values.specs.Plain.{KnownFields, PlainEntity}
 use Rattle.smt_values.specs.Uids.{Uid}
 use Rattle.smt_values.specs.Outcomes.{Outcome, ◌>>=◌, converted, each, UnknownValue}
@@ -50,7 +50,8 @@ known_field p = known_value p.1 >>= λ v. Ok (p.0, v)
 
 -- the term of the record of stored attributes, all of which have to be known, at the closed record type of these attributes
 abbrev pub fields_term : CedarAttributes → KnownFields → Outcome PlainTerm
-fields_term attributes fields = each known_field fields >>= λ held. term_of_value (ClosedRecordType attributes) (RecordValue (value_fields held))
+fields_term attributes fields =
+    each known_field fields >>= λ held. term_of_value (ClosedRecordType attributes) (RecordValue (value_fields held))
 
 -- ---- what a table has for each stored entity
 
@@ -81,16 +82,19 @@ module _ (default : PlainType → PlainTerm) where
   -- The function that a table of these pairs defines, with the default of its results' type elsewhere. Of pairs with one argument
   -- the last counts.
   abbrev pub table_of : (argument output : PlainType) → List (PlainTerm × PlainTerm) → PlainUnary
-  table_of argument output ps = Defined (record { argument = argument; output = output; entries = sorted_pairs term_cmp ps; elsewhere = default output })
+  table_of argument output ps =
+      Defined (record { argument = argument; output = output; entries = sorted_pairs term_cmp ps; elsewhere = default output })
 
   -- the attributes of the stored entities of a type, as the record that the schema has for it
   abbrev pub attributes_table : (type : List ℕ) → CedarAttributes → List PlainEntity → Outcome PlainUnary
   attributes_table type attributes entities =
-      converted (type_of_cedar (ClosedRecordType attributes)) >>= λ own. each (attributes_entry attributes) (stored_of type entities) >>= λ ps. Ok (table_of (EntityType type) own ps)
+      converted (type_of_cedar (ClosedRecordType attributes)) >>=
+      λ own. each (attributes_entry attributes) (stored_of type entities) >>= λ ps. Ok (table_of (EntityType type) own ps)
 
   -- the ancestors of the stored entities of a type that are of one other type, as a set
   abbrev pub ancestors_table : (type kind : List ℕ) → List PlainEntity → PlainUnary
-  ancestors_table type kind entities = table_of (EntityType type) (SetType (EntityType kind)) (map (ancestors_entry kind) (stored_of type entities))
+  ancestors_table type kind entities =
+      table_of (EntityType type) (SetType (EntityType kind)) (map (ancestors_entry kind) (stored_of type entities))
 
   -- a table of ancestors for each of these types
   abbrev pub ancestors_tables : (type : List ℕ) → (kinds : List (List ℕ)) → List PlainEntity → List (List ℕ × PlainUnary)

@@ -8,11 +8,11 @@ use Rattle.law_terms.specs.Typing.{Typed}
 use Rattle.law_terms.specs.Values.{Value}
 use Rattle.smt_term.specs.View.{plain_term}
 use Rattle.smt_term.specs.declared.term.Term.{Term}
-use Rattle.smt_cedar.specs.Cedar.{PlainCedar}
-use Rattle.smt_cedar.specs.TypeOfCedar.{type_of_cedar}
-use Rattle.smt_cedar.specs.TypeView.{plain_cedar}
-use Rattle.smt_cedar.specs.declared.cedar_type.CedarType.{CedarType}
-use Rattle.smt_cedar.specs.Plain.{PlainValue}
+use Rattle.smt_values.specs.Cedar.{PlainCedar}
+use Rattle.smt_values.specs.TypeOfCedar.{type_of_cedar}
+use Rattle.smt_values.specs.TypeView.{plain_cedar}
+use Rattle.smt_values.specs.declared.cedar_type.CedarType.{CedarType}
+use Rattle.smt_values.specs.PlainValues.{PlainValue}
 use Rattle.smt_values.specs.TermOfValue.{term_of_value}
 use Rattle.smt_values.specs.declared.error.SymbolizeError.{SymbolizeError}
 use Rattle.smt_values.specs.declared.error.SymbolizeError.TheVariants.{Memory}
@@ -28,7 +28,9 @@ pub record IsLiteralOf (type : PlainType) (value : Value) (u : PlainTerm) : Type
 -- Every value of a Cedar type in order that a type of terms stands for has a term: a literal of that type, which means in every
 -- interpretation what the value means.
 abbrev pub TermsHaveMeanings : Type 0
-TermsHaveMeanings = (type : PlainCedar) (v : PlainValue) (t : PlainType) → IsInOrder type → IsOfType type v → type_of_cedar type ≡ Ok t → (u : PlainTerm) × (term_of_value type v ≡ Ok u) × IsLiteralOf t (cedar_value type v) u
+TermsHaveMeanings =
+    (type : PlainCedar) (v : PlainValue) (t : PlainType) → IsInOrder type → IsOfType type v → type_of_cedar type ≡ Ok t →
+    (u : PlainTerm) × (term_of_value type v ≡ Ok u) × IsLiteralOf t (cedar_value type v) u
 
 -- every Cedar type of the program is in order
 abbrev pub ProgramTypesAreInOrder : Type 0
@@ -42,4 +44,5 @@ IsLiteralOrMemory t value (Err e) = e ≡ Memory
 -- What is answered of a value at a type, where the value is of the type and a type of terms stands for that: a literal of the type of
 -- terms, which means in every interpretation what the value means, or that there was no memory.
 abbrev pub AnswersMeaning : PlainCedar → PlainValue → Result Term SymbolizeError → Type 0
-AnswersMeaning type v answer = (t : PlainType) → IsOfType type v → type_of_cedar type ≡ Ok t → IsLiteralOrMemory t (cedar_value type v) answer
+AnswersMeaning type v answer =
+    (t : PlainType) → IsOfType type v → type_of_cedar type ≡ Ok t → IsLiteralOrMemory t (cedar_value type v) answer

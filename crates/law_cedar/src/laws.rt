@@ -2,18 +2,20 @@
 //! which it speaks.
 ghost use Rattle.std.specs.Prelude.{◌≡◌, IfErr, IfOk, Ok};
 ghost use Rattle.smt_term.specs.View.{plain_term};
-ghost use Rattle.smt_cedar.specs.TypeView.{plain_cedar};
-ghost use Rattle.smt_cedar.specs.ValueView.{plain_value_of};
+ghost use Rattle.smt_values.specs.TypeView.{plain_cedar};
+ghost use Rattle.smt_values.specs.ValueView.{plain_value_of};
 ghost use Rattle.smt_values.specs.Refused.{IsRefusal};
 ghost use Rattle.smt_values.specs.TermOfValue.{term_of_value};
-ghost use Rattle.law_cedar.specs.ValueExamples.{MeaningExamples, OrderExamples, RefusalExamples, TypingExamples};
-ghost use Rattle.law_cedar.specs.ValueLaws.{AnswersMeaning, ProgramTypesAreInOrder, TermsHaveMeanings};
-ghost use Rattle.law_cedar.specs.Examples.{FaultExamples, TableExamples};
-ghost use Rattle.law_cedar.specs.Laws.{ProgramSchemasAreInOrder, ProgramStoresAreStores, TablesSayWhatIsStored};
+ghost use Rattle.law_cedar.specs.ValueRows.{MeaningExamples, OrderExamples, RefusalExamples};
+ghost use Rattle.law_cedar.specs.ValueRows.{TypingExamples};
+ghost use Rattle.law_cedar.specs.ValueLaws.{AnswersMeaning, ProgramTypesAreInOrder};
+ghost use Rattle.law_cedar.specs.ValueLaws.{TermsHaveMeanings};
+ghost use Rattle.law_cedar.specs.Rows.{FaultExamples, TableExamples};
+ghost use Rattle.law_cedar.specs.Laws.{ProgramSchemasAreInOrder, ProgramStoresAreStores};
+ghost use Rattle.law_cedar.specs.Laws.{TablesSayWhatIsStored};
 
-use smt_cedar::{CedarType, Value};
 use smt_term::Term;
-use smt_values::{FromCedar, SymbolizeError};
+use smt_values::{CedarType, FromCedar, SymbolizeError, Value};
 use std::alloc::Global;
 
 /// Every value of a Cedar type in order that a type of terms stands for has a term. That term is a literal of this type, and in
@@ -37,8 +39,10 @@ pub fn answers_have_meanings(
     v: &Value,
     ty: &CedarType,
 ) -> Result<Term, SymbolizeError>
-    ensures given { IfOk result (λ t. term_of_value (plain_cedar ty.now) (plain_value_of v.now) ≡ Ok (plain_term t)) }
-    ensures refused { IfErr result (λ e. IsRefusal e (term_of_value (plain_cedar ty.now) (plain_value_of v.now))) }
+    ensures given { IfOk result
+        (λ t. term_of_value (plain_cedar ty.now) (plain_value_of v.now) ≡ Ok (plain_term t)) }
+    ensures refused { IfErr result
+        (λ e. IsRefusal e (term_of_value (plain_cedar ty.now) (plain_value_of v.now))) }
     ensures meaning { AnswersMeaning (plain_cedar ty.now) (plain_value_of v.now) result }
 {
     Term::from_value(alloc, v, ty)

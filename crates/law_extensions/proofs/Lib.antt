@@ -10,7 +10,6 @@ pub mod DecimalTexts
 pub mod Decimals
 pub mod DurationTexts
 pub mod Durations
-pub mod Examples
 pub mod FreeBits
 pub mod FunctionsAlike
 pub mod FunctionsKeep
@@ -21,8 +20,9 @@ pub mod Moments
 pub mod OfAnswers
 pub mod OfValues
 pub mod RangeTexts
+pub mod Rows
 pub mod RuleTells
 pub mod Shifts
 pub mod Signs
 pub mod TextBounds
-pub mod TextExamples
+pub mod TextRows

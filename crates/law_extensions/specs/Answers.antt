@@ -13,7 +13,8 @@ use Rattle.law_terms.specs.Faults.{first_fault}
 use Rattle.law_terms.specs.Formed.{IsFormed}
 use Rattle.law_terms.specs.Interpretations.{IsInterpretation}
 use Rattle.law_terms.specs.Meaning.{term_value}
-use Rattle.law_terms.specs.Plain.{DatetimeKind, DatetimeOf, DurationKind, DurationOf, ExtensionKind, ExtensionType, IpAddrKind, Ipv4Of, Ipv6Of, PlainTerm}
+use Rattle.law_terms.specs.Plain.{DatetimeKind, DatetimeOf, DurationKind, DurationOf, ExtensionKind, ExtensionType, IpAddrKind, Ipv4Of}
+use Rattle.law_terms.specs.Plain.{Ipv6Of, PlainTerm}
 use Rattle.law_terms.specs.Tables.{Interpretation}
 use Rattle.law_terms.specs.TypeValues.{Enums}
 use Rattle.law_terms.specs.Typing.{Typed}
@@ -23,33 +24,47 @@ use Rattle.law_terms.specs.Values.{ExtensionValue, Value}
 
 -- the answer tells whether the addresses of the first range are all among those of one in the list
 abbrev pub TellsContainment : (t : PlainTerm) (ts : List PlainTerm) (answer : PlainTerm) → Type 0
-TellsContainment t ts u = (enums : Enums) (I : Interpretation) (r : Range) (rs : List Range) → HasRange I t r → AllZip (HasRange I) ts rs → IsInterpretation enums (is_in_range applied t ts ∷ []) I → Tells I u (LiesInOne r rs)
+TellsContainment t ts u =
+    (enums : Enums) (I : Interpretation) (r : Range) (rs : List Range) → HasRange I t r → AllZip (HasRange I) ts rs →
+    IsInterpretation enums (is_in_range applied t ts ∷ []) I → Tells I u (LiesInOne r rs)
 
 -- the answer tells whether the addresses of the range are all among those of 127.0.0.0/8, or of ::1
 abbrev pub TellsLoopback : (t answer : PlainTerm) → Type 0
-TellsLoopback t u = (enums : Enums) (I : Interpretation) (r : Range) → HasRange I t r → IsInterpretation enums (is_loopback applied t ∷ []) I → Tells I u (IsLoopback r)
+TellsLoopback t u =
+    (enums : Enums) (I : Interpretation) (r : Range) → HasRange I t r → IsInterpretation enums (is_loopback applied t ∷ []) I →
+    Tells I u (IsLoopback r)
 
 -- the answer tells whether the addresses of the range are all among those of 224.0.0.0/4, or of ff00::/8
 abbrev pub TellsMulticast : (t answer : PlainTerm) → Type 0
-TellsMulticast t u = (enums : Enums) (I : Interpretation) (r : Range) → HasRange I t r → IsInterpretation enums (is_multicast applied t ∷ []) I → Tells I u (IsMulticast r)
+TellsMulticast t u =
+    (enums : Enums) (I : Interpretation) (r : Range) → HasRange I t r → IsInterpretation enums (is_multicast applied t ∷ []) I →
+    Tells I u (IsMulticast r)
 
 -- ---- datetimes and durations
 
 -- the answer is some of the datetime that is a duration later, and none where that leaves the 64 bits
 abbrev pub TellsOffset : (t u answer : PlainTerm) → Type 0
-TellsOffset t u v = (enums : Enums) (I : Interpretation) (z w : ℤ) → HasDatetime I t z → HasDuration I u w → IsInterpretation enums (offset applied t u ∷ []) I → IsSomeIn I v (z +ℤ w) DatetimeOf
+TellsOffset t u v =
+    (enums : Enums) (I : Interpretation) (z w : ℤ) → HasDatetime I t z → HasDuration I u w →
+    IsInterpretation enums (offset applied t u ∷ []) I → IsSomeIn I v (z +ℤ w) DatetimeOf
 
 -- the answer is some of the duration from the second datetime to the first, and none where that leaves the 64 bits
 abbrev pub TellsDurationSince : (t u answer : PlainTerm) → Type 0
-TellsDurationSince t u v = (enums : Enums) (I : Interpretation) (z w : ℤ) → HasDatetime I t z → HasDatetime I u w → IsInterpretation enums (duration_since applied t u ∷ []) I → IsSomeIn I v (z -ℤ w) DurationOf
+TellsDurationSince t u v =
+    (enums : Enums) (I : Interpretation) (z w : ℤ) → HasDatetime I t z → HasDatetime I u w →
+    IsInterpretation enums (duration_since applied t u ∷ []) I → IsSomeIn I v (z -ℤ w) DurationOf
 
 -- the answer is some of the last midnight, and none where that leaves the 64 bits
 abbrev pub TellsDate : (t answer : PlainTerm) → Type 0
-TellsDate t v = (enums : Enums) (I : Interpretation) (z : ℤ) → HasDatetime I t z → IsInterpretation enums (to_date applied t ∷ []) I → IsSomeIn I v (day_start z) DatetimeOf
+TellsDate t v =
+    (enums : Enums) (I : Interpretation) (z : ℤ) → HasDatetime I t z → IsInterpretation enums (to_date applied t ∷ []) I →
+    IsSomeIn I v (day_start z) DatetimeOf
 
 -- the answer is the duration since the last midnight
 abbrev pub TellsTime : (t answer : PlainTerm) → Type 0
-TellsTime t v = (enums : Enums) (I : Interpretation) (z : ℤ) → HasDatetime I t z → IsInterpretation enums (to_time applied t ∷ []) I → term_value I v ≡ ExtensionValue (DurationOf (time_of_day z))
+TellsTime t v =
+    (enums : Enums) (I : Interpretation) (z : ℤ) → HasDatetime I t z → IsInterpretation enums (to_time applied t ∷ []) I →
+    term_value I v ≡ ExtensionValue (DurationOf (time_of_day z))
 
 -- whatever term stands for the application of a function tells what the function answers
 pub record AnswersHaveValues : Type 0 where
@@ -84,6 +99,9 @@ pub record IsArgument (enums : Enums) (I : Interpretation) (k : ExtensionKind) (
 
 -- It has a range for its value where it is of the type of ranges, and a number of milliseconds where it is of datetimes or durations.
 pub record ArgumentsHaveValues : Type 0 where
-  pub range : (enums : Enums) (I : Interpretation) (t : PlainTerm) → IsArgument enums I IpAddrKind t → HasRange I t (range_of_value (term_value I t))
-  pub datetime : (enums : Enums) (I : Interpretation) (t : PlainTerm) → IsArgument enums I DatetimeKind t → HasDatetime I t (milliseconds_of_value (term_value I t))
-  pub duration : (enums : Enums) (I : Interpretation) (t : PlainTerm) → IsArgument enums I DurationKind t → HasDuration I t (milliseconds_of_value (term_value I t))
+  pub range : (enums : Enums) (I : Interpretation) (t : PlainTerm) → IsArgument enums I IpAddrKind t →
+      HasRange I t (range_of_value (term_value I t))
+  pub datetime : (enums : Enums) (I : Interpretation) (t : PlainTerm) → IsArgument enums I DatetimeKind t →
+      HasDatetime I t (milliseconds_of_value (term_value I t))
+  pub duration : (enums : Enums) (I : Interpretation) (t : PlainTerm) → IsArgument enums I DurationKind t →
+      HasDuration I t (milliseconds_of_value (term_value I t))

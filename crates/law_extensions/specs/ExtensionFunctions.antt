@@ -1,12 +1,14 @@
 -- The functions on values of the extension types, as they are made of other calls, each written once over what builds terms:
 -- `applied` gives the application that is asked for, `folding` what the call gives. Literals are the same whoever builds.
 use Rattle.std.specs.Prelude.{ℕ, ◌-◌, ◌*◌, ◌^◌, List, [], ◌∷◌, Some, None}
-use Rattle.law_numbers.specs.BitOperators.{BvaddOp, BvlshrOp, BvsdivOp, BvshlOp, BvsmodOp, BvsremOp, BvsubOp, BvsleOp, BvsltOp, BvuleOp, BvsaddoOp, BvssuboOp}
+use Rattle.law_numbers.specs.BitOperators.{BvaddOp, BvlshrOp, BvsdivOp, BvshlOp, BvsmodOp, BvsremOp, BvsubOp, BvsleOp, BvsltOp, BvuleOp}
+use Rattle.law_numbers.specs.BitOperators.{BvsaddoOp, BvssuboOp}
 use Rattle.law_folding.specs.Applications.{false_term, bits_literal}
 use Rattle.law_folding.specs.Builder.{Builder}
 use Rattle.law_folding.specs.Composites.{if_false, is_none}
 use Rattle.law_folding.specs.FoldExtensions.{extension_literal}
-use Rattle.law_terms.specs.Plain.{DatetimeOfBitVecOp, DatetimeValOp, DecimalValOp, DurationOfBitVecOp, DurationValOp, ExtensionOp, IpAddrV4Op, IpAddrV6Op, IpIsV4Op, IpPrefixV4Op, IpPrefixV6Op, Ipv4Of, Ipv6Of, PlainExtension, PlainTerm}
+use Rattle.law_terms.specs.Plain.{DatetimeOfBitVecOp, DatetimeValOp, DecimalValOp, DurationOfBitVecOp, DurationValOp, ExtensionOp}
+use Rattle.law_terms.specs.Plain.{IpAddrV4Op, IpAddrV6Op, IpIsV4Op, IpPrefixV4Op, IpPrefixV6Op, Ipv4Of, Ipv6Of, PlainExtension, PlainTerm}
 
 -- ---- decimals
 
@@ -40,7 +42,8 @@ is_ipv6 b t = b.not (is_ipv4 b t)
 -- number. No prefix leaves none free.
 abbrev pub subnet_width : Builder → (width : ℕ) → (prefix : PlainTerm) → PlainTerm
 subnet_width b w p =
-    b.ite (is_none b p) (bits_literal (2 ^ w) 0) (b.bits BvsubOp (bits_literal (2 ^ w) (2 ^ w)) (b.zero_extend (2 ^ w - w) (b.option_get p)))
+    b.ite (is_none b p) (bits_literal (2 ^ w) 0)
+    (b.bits BvsubOp (bits_literal (2 ^ w) (2 ^ w)) (b.zero_extend (2 ^ w - w) (b.option_get p)))
 
 -- the lowest address of a block: an address with its free bits cleared
 abbrev pub lowest_address : Builder → (address free : PlainTerm) → PlainTerm
@@ -68,12 +71,14 @@ abbrev pub in_range : Builder → (range : PlainTerm → (PlainTerm × PlainTerm
 in_range b range t u = b.and (b.test BvuleOp (range t).1 (range u).1) (b.test BvuleOp (range u).0 (range t).0)
 
 -- What came of the front of a list, or one of the rest is of the family and has the first range inside it.
-abbrev pub in_one_from : Builder → (is_ip : PlainTerm → PlainTerm) → (range : PlainTerm → (PlainTerm × PlainTerm)) → PlainTerm → (so_far : PlainTerm) → List PlainTerm → PlainTerm
+abbrev pub in_one_from : Builder → (is_ip : PlainTerm → PlainTerm) → (range : PlainTerm → (PlainTerm × PlainTerm)) → PlainTerm →
+    (so_far : PlainTerm) → List PlainTerm → PlainTerm
 in_one_from b is_ip range t so_far [] = so_far
 in_one_from b is_ip range t so_far (x ∷ xs) = in_one_from b is_ip range t (b.or so_far (b.and (is_ip x) (in_range b range t x))) xs
 
 -- the range is of the family, and lies in one of the list that is of the family too
-abbrev pub in_range_v : Builder → (is_ip : PlainTerm → PlainTerm) → (range : PlainTerm → (PlainTerm × PlainTerm)) → PlainTerm → List PlainTerm → PlainTerm
+abbrev pub in_range_v : Builder → (is_ip : PlainTerm → PlainTerm) → (range : PlainTerm → (PlainTerm × PlainTerm)) → PlainTerm →
+    List PlainTerm → PlainTerm
 in_range_v b is_ip range t ts = b.and (is_ip t) (in_one_from b is_ip range t false_term ts)
 
 -- whether a range lies in one of a list that is of its family; of a list of one this is `isInRange` of Cedar
@@ -82,7 +87,8 @@ is_in_range b t ts = b.or (in_range_v b (is_ipv4 b) (range_v4 b) t ts) (in_range
 
 -- whether a range lies in the one of two literals that is of its family
 abbrev pub in_range_lit : Builder → PlainTerm → (cidr4 cidr6 : PlainExtension) → PlainTerm
-in_range_lit b t x y = b.ite (is_ipv4 b t) (in_range b (range_v4 b) t (extension_literal x)) (in_range b (range_v6 b) t (extension_literal y))
+in_range_lit b t x y =
+    b.ite (is_ipv4 b t) (in_range b (range_v4 b) t (extension_literal x)) (in_range b (range_v6 b) t (extension_literal y))
 
 -- 127.0.0.0/8, the loopback addresses of version 4
 abbrev pub loopback_v4 : PlainExtension
@@ -158,8 +164,11 @@ to_date b t = difference_as b DatetimeOfBitVecOp (b.extension DatetimeValOp t) (
 -- The milliseconds since the last midnight, of a number and of what is left of the day rounded towards zero: that, and where the
 -- number is below zero 0 or a day more.
 abbrev pub since_midnight : Builder → (number left : PlainTerm) → PlainTerm
-since_midnight b x r = b.ite (b.test BvsleOp (bits_literal 64 0) x) r (b.ite (b.eq r (bits_literal 64 0)) (bits_literal 64 0) (b.bits BvaddOp r day_literal))
+since_midnight b x r =
+    b.ite (b.test BvsleOp (bits_literal 64 0) x) r (b.ite (b.eq r (bits_literal 64 0)) (bits_literal 64 0) (b.bits BvaddOp r day_literal))
 
 -- the duration since the last midnight (`toTime` of Cedar)
 abbrev pub to_time : Builder → PlainTerm → PlainTerm
-to_time b t = b.extension DurationOfBitVecOp (since_midnight b (b.extension DatetimeValOp t) (b.bits BvsremOp (b.extension DatetimeValOp t) day_literal))
+to_time b t =
+    b.extension DurationOfBitVecOp
+    (since_midnight b (b.extension DatetimeValOp t) (b.bits BvsremOp (b.extension DatetimeValOp t) day_literal))

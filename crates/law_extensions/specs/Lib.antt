@@ -3,8 +3,8 @@ pub mod Bounds
 pub mod DatetimeTexts
 pub mod DecimalTexts
 pub mod DurationTexts
-pub mod Examples
 pub mod ExtensionFunctions
+pub mod FoldedRows
 pub mod Laws
 pub mod Literals
 pub mod RangeTexts
@@ -12,5 +12,5 @@ pub mod Readings
 pub mod Rows
 pub mod Rules
 pub mod Signs
-pub mod TextExamples
+pub mod TextRows
 pub mod Values

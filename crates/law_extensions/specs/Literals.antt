@@ -1,7 +1,8 @@
 -- Literals of the extension types.
 use Rattle.std.specs.Prelude.{ℕ, ℤ, Option}
 use Rattle.law_folding.specs.FoldExtensions.{extension_literal}
-use Rattle.law_terms.specs.Plain.{DatetimeKind, DatetimeOf, DecimalOf, DurationKind, DurationOf, ExtensionType, Ipv4Of, Ipv6Of, NoneTerm, PlainTerm}
+use Rattle.law_terms.specs.Plain.{DatetimeKind, DatetimeOf, DecimalOf, DurationKind, DurationOf, ExtensionType, Ipv4Of, Ipv6Of, NoneTerm}
+use Rattle.law_terms.specs.Plain.{PlainTerm}
 
 -- the literal of a decimal, by its number of ten-thousandths
 abbrev pub decimal : ℤ → PlainTerm

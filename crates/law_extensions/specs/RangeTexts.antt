@@ -1,5 +1,6 @@
 -- IP ranges, read from their texts.
-use Rattle.std.specs.Prelude.{ℕ, ◌+◌, ◌*◌, not, ◌&&◌, ◌==◌, nat_le, if◌then◌else◌, bytes_eq, decimal, Option, Some, None, option_map, List, [], ◌∷◌, drop, length}
+use Rattle.std.specs.Prelude.{ℕ, ◌+◌, ◌*◌, not, ◌&&◌, ◌==◌, nat_le, if◌then◌else◌, bytes_eq, decimal, Option, Some, None, option_map, List}
+use Rattle.std.specs.Prelude.{[], ◌∷◌, drop, length}
 use Rattle.std.specs.List.{fold, list_any, take_while}
 use Rattle.std.specs.Net.Reader.{read_ipv4, read_ipv6, whole_value}
 use Rattle.std.specs.Option.{option_or}

@@ -1,120 +1,192 @@
--- Worked examples of the functions on values of the extension types, as they are folded.
-use Rattle.std.specs.Prelude.{◌≡◌, ℕ, ◌-◌, ◌*◌, ◌+◌, ◌^◌, ℤ, pos, negsuc, Bool, true, false, List, [], ◌∷◌, map, codes, Option, Some, None}
-use Rattle.law_extensions.specs.ExtensionFunctions.{duration_since, greater_than, greater_than_or_equal, is_in_range, is_ipv4, is_ipv6, is_loopback, is_multicast, less_than, less_than_or_equal, offset, range_v4, range_v6, subnet_width, to_date, to_days, to_hours, to_milliseconds, to_minutes, to_seconds, to_time}
-use Rattle.law_extensions.specs.Literals.{datetime, decimal, duration, ipv4, ipv6, no_datetime, no_duration}
-use Rattle.law_folding.specs.Applications.{bits_literal, extension_of, test_of_two, truth_literal}
-use Rattle.law_folding.specs.Builder.{applied, folding}
-use Rattle.law_folding.specs.FoldExtensions.{prefix_literal, signed_literal}
-use Rattle.law_numbers.specs.BitOperators.{BvsltOp}
+-- Worked examples of what the functions on values of the extension types answer at a variable, by the value that an interpretation
+-- gives it, and of rules on IP ranges.
+use Rattle.std.specs.Prelude.{◌≡◌, ℕ, ◌*◌, ◌+◌, ◌^◌, ℤ, pos, negsuc, true, false, List, [], ◌∷◌, map, codes, Option, Some, None}
+use Rattle.std.specs.List.{AllZip}
+use Rattle.law_numbers.specs.Longs.{IsLong}
+use Rattle.smt_ext.specs.IpRanges.{Range, Version4, Version6}
+use Rattle.law_extensions.specs.Bounds.{IsRange, LiesInOne, range_literal}
+use Rattle.smt_ext.specs.IpOrder.{plain_range}
+use Rattle.law_extensions.specs.ExtensionFunctions.{duration_since, in_range_v, is_in_range, is_ipv4, is_ipv6, is_loopback, is_multicast}
+use Rattle.law_extensions.specs.ExtensionFunctions.{offset, range_v4, range_v6, to_date, to_time}
+use Rattle.law_extensions.specs.Literals.{datetime, duration}
+use Rattle.law_extensions.specs.FoldedRows.{address_v4, greatest, least}
+use Rattle.law_extensions.specs.Rules.{BlockLiesIn, HoldsIn, IsRangeRule, LiesInOneOfFamily, RuleTells, number_in}
+use Rattle.law_extensions.specs.Values.{HasDatetime, HasDuration, HasRange, IsSomeIn, Tells}
+use Rattle.law_folding.specs.Applications.{bits_literal, false_term, true_term}
+use Rattle.law_folding.specs.Builder.{applied}
+use Rattle.law_terms.specs.Defaults.{default_interpretation}
+use Rattle.law_terms.specs.Interpretations.{IsInterpretation}
 use Rattle.law_terms.specs.Meaning.{term_value}
-use Rattle.law_terms.specs.Plain.{DatetimeOf, DecimalKind, DecimalValOp, DurationOf, ExtensionType, PlainTerm, SomeTerm, TestOp, VariableTerm}
+use Rattle.law_terms.specs.Plain.{DatetimeKind, DatetimeOf, DurationKind, DurationOf, ExtensionType, IpAddrKind, PlainExtension, PlainTerm}
+use Rattle.law_terms.specs.Plain.{VariableTerm}
 use Rattle.law_terms.specs.Tables.{Interpretation}
-use Rattle.law_terms.specs.Values.{BitVecValue, BoolValue, ExtensionValue, NoneValue, SomeValue}
+use Rattle.law_terms.specs.Values.{BoolValue, ExtensionValue, NoneValue, SomeValue, Value}
 
--- the literals of truth values
-abbrev pub truths : List Bool → List PlainTerm
-truths bs = map truth_literal bs
+-- a variable of IP ranges
+abbrev pub source : PlainTerm
+source = VariableTerm (codes "source") (ExtensionType IpAddrKind)
 
--- a variable, of which nothing is known
-abbrev pub d : PlainTerm
-d = VariableTerm (codes "d") (ExtensionType DecimalKind)
+-- a variable of datetimes
+abbrev pub moment : PlainTerm
+moment = VariableTerm (codes "moment") (ExtensionType DatetimeKind)
 
--- 1.0 and 2.0, 2.0 and 1.0, 1.0 twice, and -1.0 and 1.0
-abbrev pub pairs_of_decimals : List (PlainTerm × PlainTerm)
-pairs_of_decimals = (decimal (pos 10000), decimal (pos 20000)) ∷ (decimal (pos 20000), decimal (pos 10000)) ∷ (decimal (pos 10000), decimal (pos 10000)) ∷ (decimal (negsuc 9999), decimal (pos 10000)) ∷ []
+-- a variable of durations
+abbrev pub delay : PlainTerm
+delay = VariableTerm (codes "delay") (ExtensionType DurationKind)
 
--- what a function of two terms gives at each pair of a list
-abbrev pub of_each : (PlainTerm → PlainTerm → PlainTerm) → List (PlainTerm × PlainTerm) → List PlainTerm
-of_each f rows = map (λ r. f r.0 r.1) rows
+-- the interpretation in which each variable has this value
+abbrev pub given : PlainExtension → Interpretation
+given x = record (default_interpretation []) { variable = λ id t. ExtensionValue x }
 
--- What the comparisons give at the pairs of decimals, as they are folded and by the value of the application, and what stays an
--- application.
-pub record DecimalRows : Type 0 where
-  pub less : of_each (less_than folding) pairs_of_decimals ≡ truths (true ∷ false ∷ false ∷ true ∷ [])
-  pub less_or_equal : of_each (less_than_or_equal folding) pairs_of_decimals ≡ truths (true ∷ false ∷ true ∷ true ∷ [])
-  pub greater : of_each (greater_than folding) pairs_of_decimals ≡ truths (false ∷ true ∷ false ∷ false ∷ [])
-  pub greater_or_equal : of_each (greater_than_or_equal folding) pairs_of_decimals ≡ truths (false ∷ true ∷ true ∷ false ∷ [])
-  pub applied_values : (I : Interpretation) → map (term_value I) (of_each (less_than applied) pairs_of_decimals) ≡ map BoolValue (true ∷ false ∷ false ∷ true ∷ [])
-  pub stays : less_than folding d (decimal (pos 10000)) ≡ test_of_two (TestOp BvsltOp) (extension_of DecimalValOp d) (bits_literal 64 10000)
+-- ---- IP ranges
 
--- an address of version 4 by its four numbers
-abbrev pub address_v4 : (ℕ × ℕ × ℕ × ℕ) → ℕ
-address_v4 (a, b, c, e) = a * 2 ^ 24 + b * 2 ^ 16 + c * 2 ^ 8 + e
+-- a range of version 4, by the four numbers of its address and its prefix
+abbrev pub v4 : (ℕ × ℕ × ℕ × ℕ) → Option ℕ → Range
+v4 a p = record { family = Version4; address = address_v4 a; prefix = p }
 
--- the literal of an IP range of version 4, by the four numbers of its address and its prefix
-abbrev pub v4 : (ℕ × ℕ × ℕ × ℕ) → Option ℕ → PlainTerm
-v4 a p = ipv4 (address_v4 a) p
+-- a range of version 6, by its address as one number and its prefix
+abbrev pub v6 : ℕ → Option ℕ → Range
+v6 a p = record { family = Version6; address = a; prefix = p }
 
--- two addresses of version 4 as literals of 32 bits
-abbrev pub addresses_v4 : (lowest highest : ℕ × ℕ × ℕ × ℕ) → (PlainTerm × PlainTerm)
-addresses_v4 a b = (bits_literal 32 (address_v4 a), bits_literal 32 (address_v4 b))
+-- what a function of the variable answers where the variable is each of these ranges
+abbrev pub at_ranges : (PlainTerm → PlainTerm) → List Range → List Value
+at_ranges f rs = map (λ r. term_value (given (plain_range r)) (f source)) rs
 
--- 10.0.0.0/8
-abbrev pub ten : PlainTerm
-ten = v4 (10, 0, 0, 0) (Some 8)
+-- 10.0.0.0/8 and ::1/128
+abbrev pub blocks : List Range
+blocks = v4 (10, 0, 0, 0) (Some 8) ∷ v6 1 None ∷ []
 
--- 10.1.2.3, an address in 10.0.0.0/8
-abbrev pub in_ten : PlainTerm
-in_ten = v4 (10, 1, 2, 3) None
+-- an address of the first block, a narrower range, and one that is too wide; an address outside, and one of the other family with
+-- the number of the first; the second block, and the address behind it
+abbrev pub sources : List Range
+sources =
+    v4 (10, 1, 2, 3) None ∷ v4 (10, 1, 0, 0) (Some 16) ∷ v4 (10, 0, 0, 0) (Some 7) ∷ v4 (11, 0, 0, 1) None
+    ∷ v6 (address_v4 (10, 1, 2, 3)) None ∷ v6 1 None ∷ v6 2 None ∷ []
 
--- 0.0.0.0/0, the range of all addresses of version 4
-abbrev pub all_v4 : PlainTerm
-all_v4 = v4 (0, 0, 0, 0) (Some 0)
+-- the interpretation in which the variable is 10.1.2.3
+abbrev pub in_ten : Interpretation
+in_ten = given (plain_range (v4 (10, 1, 2, 3) None))
 
--- ::/0, the range of all addresses of version 6
-abbrev pub all_v6 : PlainTerm
-all_v6 = ipv6 0 (Some 0)
+-- What the tests of containment are at the variable, for several ranges that it may have; which of these ranges lie in the blocks,
+-- by their addresses; and one case in which the term is shown to tell that.
+pub record ContainmentExamples : Type 0 where
+  pub contained :
+      at_ranges (λ t. is_in_range applied t (map range_literal blocks)) sources
+      ≡ map BoolValue (true ∷ true ∷ false ∷ false ∷ false ∷ true ∷ false ∷ [])
+  -- 0.0.0.0/0 has every address of its family
+  pub all :
+      at_ranges (λ t. is_in_range applied t (range_literal (v4 (0, 0, 0, 0) (Some 0)) ∷ []))
+      (v4 (0, 0, 0, 0) (Some 0) ∷ v4 (255, 255, 255, 255) None ∷ v6 0 None ∷ []) ≡ map BoolValue (true ∷ true ∷ false ∷ [])
+  pub none : at_ranges (λ t. is_in_range applied t []) (v4 (10, 1, 2, 3) None ∷ []) ≡ map BoolValue (false ∷ [])
+  pub loopback :
+      at_ranges (is_loopback applied) (v4 (127, 0, 0, 1) None ∷ v4 (126, 0, 0, 0) (Some 7) ∷ v6 1 None ∷ v6 2 None ∷ [])
+      ≡ map BoolValue (true ∷ false ∷ true ∷ false ∷ [])
+  pub multicast :
+      at_ranges (is_multicast applied)
+      (v4 (224, 0, 0, 1) None ∷ v4 (223, 255, 255, 255) None ∷ v6 (0xff02 * 2 ^ 112 + 1) None ∷ v6 1 None ∷ [])
+      ≡ map BoolValue (true ∷ false ∷ true ∷ false ∷ [])
+  -- the same by the addresses of the ranges
+  pub lies : LiesInOne (v4 (10, 1, 2, 3) None) blocks
+  pub lies_outside : LiesInOne (v4 (11, 0, 0, 1) None) blocks → ⊥
+  pub other_family : LiesInOne (v6 (address_v4 (10, 1, 2, 3)) None) blocks → ⊥
+  -- a variable has the range that it is given, and literals have theirs
+  pub of_variable : (r : Range) → IsRange r → HasRange (given (plain_range r)) source r
+  pub of_literals : (I : Interpretation) → AllZip (HasRange I) (map range_literal blocks) blocks
+  pub interpreted : IsInterpretation [] (is_in_range applied source (map range_literal blocks) ∷ []) in_ten
+  -- so the term tells whether 10.1.2.3 lies in one of the blocks
+  pub told : Tells in_ten (is_in_range applied source (map range_literal blocks)) (LiesInOne (v4 (10, 1, 2, 3) None) blocks)
 
--- ff02::1
-abbrev pub all_nodes : PlainTerm
-all_nodes = ipv6 (0xff02 * 2 ^ 112 + 1) None
+-- ---- rules
 
--- What the functions on IP ranges give at literals, as they are folded and by the values of the applications.
-pub record IpRows : Type 0 where
-  pub version4 : map (is_ipv4 folding) (in_ten ∷ ipv6 0 None ∷ []) ≡ truths (true ∷ false ∷ [])
-  pub version6 : map (is_ipv6 folding) (in_ten ∷ ipv6 0 None ∷ []) ≡ truths (false ∷ true ∷ [])
-  pub free_v4 : map (λ p. subnet_width folding 5 (prefix_literal 5 p)) (Some 8 ∷ Some 0 ∷ Some 31 ∷ None ∷ []) ≡ map (bits_literal 32) (24 ∷ 32 ∷ 1 ∷ 0 ∷ [])
-  pub free_v6 : map (λ p. subnet_width folding 7 (prefix_literal 7 p)) (Some 64 ∷ Some 0 ∷ None ∷ []) ≡ map (bits_literal 128) (64 ∷ 128 ∷ 0 ∷ [])
-  pub applied_free : (I : Interpretation) → map (λ p. term_value I (subnet_width applied 5 (prefix_literal 5 p))) (Some 8 ∷ Some 0 ∷ None ∷ []) ≡ map (BitVecValue 32) (24 ∷ 32 ∷ 0 ∷ [])
-  -- the free bits of the address do not count
-  pub lowest_and_highest : map (range_v4 folding) (ten ∷ v4 (10, 1, 2, 3) (Some 8) ∷ in_ten ∷ all_v4 ∷ [])
-      ≡ addresses_v4 (10, 0, 0, 0) (10, 255, 255, 255) ∷ addresses_v4 (10, 0, 0, 0) (10, 255, 255, 255) ∷ addresses_v4 (10, 1, 2, 3) (10, 1, 2, 3) ∷ addresses_v4 (0, 0, 0, 0) (255, 255, 255, 255) ∷ []
-  pub lowest_and_highest_v6 : map (range_v6 folding) (ipv6 5 (Some 126) ∷ all_v6 ∷ []) ≡ (bits_literal 128 4, bits_literal 128 7) ∷ (bits_literal 128 0, bits_literal 128 (2 ^ 128 - 1)) ∷ []
-  pub applied_lowest : (I : Interpretation) → map (λ t. term_value I (range_v4 applied t).0) (ten ∷ all_v4 ∷ []) ≡ map (BitVecValue 32) (address_v4 (10, 0, 0, 0) ∷ 0 ∷ [])
-  pub applied_highest : (I : Interpretation) → map (λ t. term_value I (range_v4 applied t).1) (ten ∷ all_v4 ∷ []) ≡ map (BitVecValue 32) (address_v4 (10, 255, 255, 255) ∷ (2 ^ 32 - 1) ∷ [])
-  pub contained : map (λ ts. is_in_range folding in_ten ts) ((ten ∷ []) ∷ (in_ten ∷ []) ∷ (all_v4 ∷ []) ∷ (all_v6 ∷ []) ∷ [] ∷ (ipv6 1 None ∷ ten ∷ []) ∷ (v4 (11, 0, 0, 0) (Some 8) ∷ []) ∷ [])
-      ≡ truths (true ∷ true ∷ true ∷ false ∷ false ∷ true ∷ false ∷ [])
-  -- the range itself, a narrower one, a wider one, and one of the other family
-  pub ranges_contained : map (λ t. is_in_range folding t (ten ∷ all_v6 ∷ [])) (ten ∷ v4 (10, 0, 0, 0) (Some 9) ∷ v4 (10, 0, 0, 0) (Some 7) ∷ ipv6 1 None ∷ []) ≡ truths (true ∷ true ∷ false ∷ true ∷ [])
-  pub other_family : is_in_range folding (ipv6 (address_v4 (10, 1, 2, 3)) None) (ten ∷ []) ≡ truth_literal false
-  pub applied_contained : (I : Interpretation) → map (λ t. term_value I (is_in_range applied t (ten ∷ []))) (in_ten ∷ ipv6 (address_v4 (10, 1, 2, 3)) None ∷ []) ≡ map BoolValue (true ∷ false ∷ [])
-  pub loopback : map (is_loopback folding) (v4 (127, 0, 0, 1) None ∷ v4 (127, 0, 0, 0) (Some 8) ∷ v4 (128, 0, 0, 1) None ∷ ipv6 1 None ∷ ipv6 2 None ∷ []) ≡ truths (true ∷ true ∷ false ∷ true ∷ false ∷ [])
-  pub multicast : map (is_multicast folding) (v4 (224, 0, 0, 1) None ∷ v4 (224, 0, 0, 0) (Some 4) ∷ v4 (223, 0, 0, 1) None ∷ all_nodes ∷ ipv6 1 None ∷ []) ≡ truths (true ∷ true ∷ false ∷ true ∷ false ∷ [])
+-- 11.0.0.0/8 and 10.0.0.0/8
+abbrev pub two_blocks : List PlainTerm
+two_blocks = map range_literal (v4 (11, 0, 0, 0) (Some 8) ∷ v4 (10, 0, 0, 0) (Some 8) ∷ [])
 
--- the greatest number of 64 bits in two's complement
-abbrev pub greatest : ℤ
-greatest = pos (2 ^ 63 - 1)
+-- the lowest and the highest address of a literal of version 4
+abbrev pub block_of : Range → (PlainTerm × PlainTerm)
+block_of r = range_v4 applied (range_literal r)
 
--- the least number of 64 bits in two's complement
-abbrev pub least : ℤ
-least = negsuc (2 ^ 63 - 1)
+-- bounds that are the same for every term
+abbrev pub fixed : (lowest highest : PlainTerm) → PlainTerm → (PlainTerm × PlainTerm)
+fixed l h t = (l, h)
 
--- What the functions on datetimes and durations give at literals, as they are folded and by the values of the applications.
-pub record TimeRows : Type 0 where
-  pub milliseconds : map (to_milliseconds folding) (duration (pos 5) ∷ duration (negsuc 1499) ∷ []) ≡ signed_literal (pos 5) ∷ signed_literal (negsuc 1499) ∷ []
-  -- towards zero
-  pub seconds : map (to_seconds folding) (duration (negsuc 1499) ∷ duration (pos 1999) ∷ duration (negsuc 998) ∷ []) ≡ signed_literal (negsuc 0) ∷ signed_literal (pos 1) ∷ signed_literal (pos 0) ∷ []
-  pub minutes : to_minutes folding (duration (negsuc 119999)) ≡ signed_literal (negsuc 1)
-  pub hours : to_hours folding (duration (negsuc 7199999)) ≡ signed_literal (negsuc 1)
-  pub days : map (to_days folding) (duration (negsuc 86399999) ∷ duration least ∷ []) ≡ signed_literal (negsuc 0) ∷ signed_literal (negsuc 106751991166) ∷ []
-  pub applied_seconds : (I : Interpretation) → term_value I (to_seconds applied (duration (negsuc 1499))) ≡ BitVecValue 64 (2 ^ 64 - 1)
-  pub later : offset folding (datetime (pos 5)) (duration (negsuc 6)) ≡ SomeTerm (datetime (negsuc 1))
-  pub too_late : offset folding (datetime greatest) (duration (pos 1)) ≡ no_datetime
-  pub between : duration_since folding (datetime (pos 5)) (datetime (pos 7)) ≡ SomeTerm (duration (negsuc 1))
-  pub too_far : duration_since folding (datetime least) (datetime (pos 1)) ≡ no_duration
-  -- the last midnight of -1 millisecond is a day before 0
-  pub dates : map (to_date folding) (datetime (negsuc 0) ∷ datetime (pos 86400001) ∷ datetime (pos 0) ∷ []) ≡ map (λ z. SomeTerm (datetime z)) (negsuc 86399999 ∷ pos 86400000 ∷ pos 0 ∷ [])
-  pub no_date : to_date folding (datetime least) ≡ no_datetime
-  pub times : map (to_time folding) (datetime (negsuc 0) ∷ datetime (pos 86400001) ∷ datetime (negsuc 86399999) ∷ []) ≡ map duration (pos 86399999 ∷ pos 1 ∷ pos 0 ∷ [])
-  pub applied_values : (I : Interpretation) → map (term_value I) (to_date applied (datetime (negsuc 0)) ∷ to_date applied (datetime least) ∷ to_time applied (datetime (negsuc 0)) ∷ offset applied (datetime greatest) (duration (pos 1)) ∷ [])
-      ≡ SomeValue (ExtensionValue (DatetimeOf (negsuc 86399999))) ∷ NoneValue ∷ ExtensionValue (DurationOf (pos 86399999)) ∷ NoneValue ∷ []
+-- What the rules of the two families give at the variable, which bounds and blocks they have, and which other tests and bounds are
+-- rules and which are not.
+pub record RuleExamples : Type 0 where
+  pub by_v4 :
+      at_ranges (λ t. in_range_v applied (is_ipv4 applied) (range_v4 applied) t two_blocks)
+      (v4 (10, 1, 2, 3) None ∷ v4 (11, 0, 0, 1) None ∷ v4 (12, 0, 0, 1) None ∷ v6 1 None ∷ [])
+      ≡ map BoolValue (true ∷ true ∷ false ∷ false ∷ [])
+  pub by_v6 :
+      at_ranges (λ t. in_range_v applied (is_ipv6 applied) (range_v6 applied) t (map range_literal blocks))
+      (v6 1 None ∷ v6 2 None ∷ v4 (10, 1, 2, 3) None ∷ []) ≡ map BoolValue (true ∷ false ∷ false ∷ [])
+  pub of_family : HoldsIn in_ten (is_ipv4 applied source)
+  pub not_of_family : HoldsIn in_ten (is_ipv6 applied source) → ⊥
+  pub bounds :
+      map (λ t. number_in (given (plain_range (v4 (10, 1, 2, 3) (Some 8)))) t)
+      ((range_v4 applied source).0 ∷ (range_v4 applied source).1 ∷ []) ≡ address_v4 (10, 0, 0, 0) ∷ address_v4 (10, 255, 255, 255) ∷ []
+  -- a narrower block lies in a wider one, which does not lie in it
+  pub narrower : BlockLiesIn in_ten (block_of (v4 (10, 1, 0, 0) (Some 16))) (block_of (v4 (10, 0, 0, 0) (Some 8)))
+  pub wider : BlockLiesIn in_ten (block_of (v4 (10, 0, 0, 0) (Some 8))) (block_of (v4 (10, 1, 0, 0) (Some 16))) → ⊥
+  -- the second block of the two contains the variable's, the first does not
+  pub in_second : LiesInOneOfFamily in_ten (is_ipv4 applied) (range_v4 applied) source two_blocks
+  pub not_in_first : LiesInOneOfFamily in_ten (is_ipv4 applied) (range_v4 applied) source (range_literal (v4 (11, 0, 0, 0) (Some 8)) ∷ []) →
+      ⊥
+  -- What is built of the variable and the two blocks tells whether it lies in one. The literal true does not, nor does false.
+  pub built_tells :
+      RuleTells (is_ipv4 applied) (range_v4 applied) source two_blocks
+      (in_range_v applied (is_ipv4 applied) (range_v4 applied) source two_blocks)
+  pub true_tells_not : RuleTells (is_ipv4 applied) (range_v4 applied) source two_blocks true_term → ⊥
+  pub false_tells_not : RuleTells (is_ipv4 applied) (range_v4 applied) source two_blocks false_term → ⊥
+  -- A rule may give every range one block. Its lowest address is at most its highest, unless the test is false.
+  pub one_block : IsRangeRule (λ t. true_term) (fixed (bits_literal 8 3) (bits_literal 8 5))
+  pub upside_down : IsRangeRule (λ t. true_term) (fixed (bits_literal 8 5) (bits_literal 8 3)) → ⊥
+  pub never_tested : IsRangeRule (λ t. false_term) (fixed (bits_literal 8 5) (bits_literal 8 3))
+  pub two_widths : IsRangeRule (λ t. true_term) (fixed (bits_literal 8 3) (bits_literal 16 5)) → ⊥
+
+-- ---- datetimes
+
+-- what a function of the variable answers where the variable is each of these datetimes
+abbrev pub at_moments : (PlainTerm → PlainTerm) → List ℤ → List Value
+at_moments f zs = map (λ z. term_value (given (DatetimeOf z)) (f moment)) zs
+
+-- the option that holds a datetime
+abbrev pub some_datetime : ℤ → Value
+some_datetime z = SomeValue (ExtensionValue (DatetimeOf z))
+
+-- the option that holds a duration
+abbrev pub some_duration : ℤ → Value
+some_duration z = SomeValue (ExtensionValue (DurationOf z))
+
+-- 2024-02-29T00:00:00Z, in milliseconds since 1970-01-01T00:00:00Z
+abbrev pub leap_day : ℤ
+leap_day = pos 1709164800000
+
+-- the millisecond before 2024-02-29T00:00:00Z
+abbrev pub before_leap_day : ℤ
+before_leap_day = pos 1709164799999
+
+-- What the functions on datetimes are at the variable, for several datetimes that it may have; that variables and literals have
+-- their datetimes and durations; and one case in which the term is shown to have the last midnight.
+pub record TimeExamples : Type 0 where
+  -- a second later, over midnight at the leap day and at 1970
+  pub later :
+      at_moments (λ t. offset applied t (duration (pos 1000))) (before_leap_day ∷ negsuc 0 ∷ greatest ∷ [])
+      ≡ some_datetime (pos 1709164800999) ∷ some_datetime (pos 999) ∷ NoneValue ∷ []
+  pub since :
+      at_moments (λ t. duration_since applied t (datetime leap_day)) (before_leap_day ∷ pos 1709251200000 ∷ least ∷ [])
+      ≡ some_duration (negsuc 0) ∷ some_duration (pos 86400000) ∷ NoneValue ∷ []
+  -- a moment before 1970 has the midnight before it
+  pub dates :
+      at_moments (to_date applied) (leap_day ∷ before_leap_day ∷ negsuc 0 ∷ least ∷ [])
+      ≡ some_datetime leap_day ∷ some_datetime (pos 1709078400000) ∷ some_datetime (negsuc 86399999) ∷ NoneValue ∷ []
+  pub times :
+      at_moments (to_time applied) (leap_day ∷ before_leap_day ∷ negsuc 0 ∷ [])
+      ≡ map (λ z. ExtensionValue (DurationOf z)) (pos 0 ∷ pos 86399999 ∷ pos 86399999 ∷ [])
+  -- a variable has the datetime that it is given
+  pub of_variable : (z : ℤ) → IsLong z → HasDatetime (given (DatetimeOf z)) moment z
+  -- a variable has the duration that it is given, and a literal has its own
+  pub duration_of_variable : (z : ℤ) → IsLong z → HasDuration (given (DurationOf z)) delay z
+  pub duration_of_literal : (I : Interpretation) (z : ℤ) → IsLong z → HasDuration I (duration z) z
+  pub interpreted : (z : ℤ) → IsLong z → IsInterpretation [] (to_date applied moment ∷ to_time applied moment ∷ []) (given (DatetimeOf z))
+  pub told : IsSomeIn (given (DatetimeOf (negsuc 0))) (to_date applied moment) (negsuc 86399999) DatetimeOf

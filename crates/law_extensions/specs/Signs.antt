@@ -1,5 +1,6 @@
 -- What numbers with a sign have in common, in texts: the minus in front, and the bounds of 64 bits.
-use Rattle.std.specs.Prelude.{ℕ, ◌^◌, Bool, ◌&&◌, ◌==◌, if◌then◌else◌, ℤ, pos, neg_ℤ, int_le, int_lt, Option, Some, None, List, drop, slice_index}
+use Rattle.std.specs.Prelude.{ℕ, ◌^◌, Bool, ◌&&◌, ◌==◌, if◌then◌else◌, ℤ, pos, neg_ℤ, int_le, int_lt, Option, Some, None, List, drop}
+use Rattle.std.specs.Prelude.{slice_index}
 
 -- a minus stands first
 abbrev pub has_minus : List ℕ → Bool

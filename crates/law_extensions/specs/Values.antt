@@ -11,7 +11,8 @@ use Rattle.law_folding.specs.Builder.{applied}
 use Rattle.law_terms.specs.Formed.{IsFormed}
 use Rattle.law_terms.specs.Interpretations.{IsInterpretation}
 use Rattle.law_terms.specs.Meaning.{term_value}
-use Rattle.law_terms.specs.Plain.{DatetimeKind, DatetimeOf, DurationKind, DurationOf, ExtensionKind, ExtensionType, IpAddrKind, PlainExtension, PlainTerm}
+use Rattle.law_terms.specs.Plain.{DatetimeKind, DatetimeOf, DurationKind, DurationOf, ExtensionKind, ExtensionType, IpAddrKind}
+use Rattle.law_terms.specs.Plain.{PlainExtension, PlainTerm}
 use Rattle.law_terms.specs.Tables.{Interpretation}
 use Rattle.law_terms.specs.TypeValues.{Enums}
 use Rattle.law_terms.specs.Typing.{Typed}
@@ -52,14 +53,22 @@ pub record IsSomeIn (I : Interpretation) (t : PlainTerm) (number : ℤ) (valued 
 -- In an interpretation of what is built: a range lies in one of a list exactly where its addresses are all among those of one, and
 -- is a loopback or a multicast range exactly where they are among those of one of the two blocks.
 pub record ContainmentHasValues : Type 0 where
-  pub is_in_range : (enums : Enums) (I : Interpretation) (t : PlainTerm) (ts : List PlainTerm) (r : Range) (rs : List Range) → HasRange I t r → AllZip (HasRange I) ts rs → IsInterpretation enums (is_in_range applied t ts ∷ []) I → Tells I (is_in_range applied t ts) (LiesInOne r rs)
-  pub is_loopback : (enums : Enums) (I : Interpretation) (t : PlainTerm) (r : Range) → HasRange I t r → IsInterpretation enums (is_loopback applied t ∷ []) I → Tells I (is_loopback applied t) (IsLoopback r)
-  pub is_multicast : (enums : Enums) (I : Interpretation) (t : PlainTerm) (r : Range) → HasRange I t r → IsInterpretation enums (is_multicast applied t ∷ []) I → Tells I (is_multicast applied t) (IsMulticast r)
+  pub is_in_range : (enums : Enums) (I : Interpretation) (t : PlainTerm) (ts : List PlainTerm) (r : Range) (rs : List Range) →
+      HasRange I t r → AllZip (HasRange I) ts rs → IsInterpretation enums (is_in_range applied t ts ∷ []) I →
+      Tells I (is_in_range applied t ts) (LiesInOne r rs)
+  pub is_loopback : (enums : Enums) (I : Interpretation) (t : PlainTerm) (r : Range) → HasRange I t r →
+      IsInterpretation enums (is_loopback applied t ∷ []) I → Tells I (is_loopback applied t) (IsLoopback r)
+  pub is_multicast : (enums : Enums) (I : Interpretation) (t : PlainTerm) (r : Range) → HasRange I t r →
+      IsInterpretation enums (is_multicast applied t ∷ []) I → Tells I (is_multicast applied t) (IsMulticast r)
 
 -- In an interpretation of what is built: the sum and the difference where they stay in the 64 bits, the last midnight where it
 -- does, and the milliseconds since.
 pub record TimesHaveValues : Type 0 where
-  pub offset : (enums : Enums) (I : Interpretation) (t u : PlainTerm) (z w : ℤ) → HasDatetime I t z → HasDuration I u w → IsInterpretation enums (offset applied t u ∷ []) I → IsSomeIn I (offset applied t u) (z +ℤ w) DatetimeOf
-  pub duration_since : (enums : Enums) (I : Interpretation) (t u : PlainTerm) (z w : ℤ) → HasDatetime I t z → HasDatetime I u w → IsInterpretation enums (duration_since applied t u ∷ []) I → IsSomeIn I (duration_since applied t u) (z -ℤ w) DurationOf
-  pub to_date : (enums : Enums) (I : Interpretation) (t : PlainTerm) (z : ℤ) → HasDatetime I t z → IsInterpretation enums (to_date applied t ∷ []) I → IsSomeIn I (to_date applied t) (day_start z) DatetimeOf
-  pub to_time : (enums : Enums) (I : Interpretation) (t : PlainTerm) (z : ℤ) → HasDatetime I t z → IsInterpretation enums (to_time applied t ∷ []) I → term_value I (to_time applied t) ≡ ExtensionValue (DurationOf (time_of_day z))
+  pub offset : (enums : Enums) (I : Interpretation) (t u : PlainTerm) (z w : ℤ) → HasDatetime I t z → HasDuration I u w →
+      IsInterpretation enums (offset applied t u ∷ []) I → IsSomeIn I (offset applied t u) (z +ℤ w) DatetimeOf
+  pub duration_since : (enums : Enums) (I : Interpretation) (t u : PlainTerm) (z w : ℤ) → HasDatetime I t z → HasDatetime I u w →
+      IsInterpretation enums (duration_since applied t u ∷ []) I → IsSomeIn I (duration_since applied t u) (z -ℤ w) DurationOf
+  pub to_date : (enums : Enums) (I : Interpretation) (t : PlainTerm) (z : ℤ) → HasDatetime I t z →
+      IsInterpretation enums (to_date applied t ∷ []) I → IsSomeIn I (to_date applied t) (day_start z) DatetimeOf
+  pub to_time : (enums : Enums) (I : Interpretation) (t : PlainTerm) (z : ℤ) → HasDatetime I t z →
+      IsInterpretation enums (to_time applied t ∷ []) I → term_value I (to_time applied t) ≡ ExtensionValue (DurationOf (time_of_day z))

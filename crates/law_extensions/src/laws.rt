@@ -1,12 +1,18 @@
 //! Laws of the functions on values of the extension types, and of the functions that read their texts, proved with no code.
 ghost use Rattle.law_extensions.specs.Answers.{AnswersHaveValues, ArgumentsHaveValues};
-ghost use Rattle.law_extensions.specs.Examples.{ContainmentExamples, RuleExamples, TimeExamples};
-ghost use Rattle.law_extensions.specs.Laws.{ContainmentIsTold, DatetimesAreMoved, DatetimesAreSplit, DecimalsAreCompared, DurationsAreMeasured, ExtensionFunctionsAreFolded, FamiliesAreTold, FreeBitsAreCounted, RangesAreBlocks, RangesAreBounded};
-ghost use Rattle.law_extensions.specs.Rows.{DecimalRows, IpRows, TimeRows};
+ghost use Rattle.law_extensions.specs.Rows.{ContainmentExamples, RuleExamples, TimeExamples};
+ghost use Rattle.law_extensions.specs.Laws.{ContainmentIsTold, DatetimesAreMoved};
+ghost use Rattle.law_extensions.specs.Laws.{DatetimesAreSplit, DecimalsAreCompared};
+ghost use Rattle.law_extensions.specs.Laws.{DurationsAreMeasured, ExtensionFunctionsAreFolded};
+ghost use Rattle.law_extensions.specs.Laws.{FamiliesAreTold, FreeBitsAreCounted};
+ghost use Rattle.law_extensions.specs.Laws.{RangesAreBlocks, RangesAreBounded};
+ghost use Rattle.law_extensions.specs.FoldedRows.{DecimalRows, IpRows, TimeRows};
 ghost use Rattle.law_extensions.specs.Rules.{RulesAreKept};
 ghost use Rattle.law_extensions.specs.Values.{ContainmentHasValues, TimesHaveValues};
-ghost use Rattle.law_extensions.specs.TextExamples.{DatetimeExamples, DecimalExamples, DurationExamples, RangeExamples};
-ghost use Rattle.law_extensions.specs.Readings.{DatetimesAreRead, DecimalsAreRead, DurationsAreRead, RangesAreRead};
+ghost use Rattle.law_extensions.specs.TextRows.{DatetimeExamples, DecimalExamples};
+ghost use Rattle.law_extensions.specs.TextRows.{DurationExamples, RangeExamples};
+ghost use Rattle.law_extensions.specs.Readings.{DatetimesAreRead, DecimalsAreRead};
+ghost use Rattle.law_extensions.specs.Readings.{DurationsAreRead, RangesAreRead};
 
 /// Each function: what it is folded to stands for the application.
 pub fn extension_functions_are_folded()

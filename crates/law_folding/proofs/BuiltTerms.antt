@@ -24,7 +24,8 @@ use Rattle.law_folding.proofs.ExtensionsStand.{stands_extension}
 use Rattle.law_folding.proofs.OptionsStand.{stands_option_get}
 use Rattle.law_folding.proofs.Records.{fields}
 use Rattle.law_folding.proofs.RecordsStand.{stands_record_get}
-use Rattle.law_folding.proofs.SetLists.{listed_again, set_again}
+use Rattle.law_folding.proofs.SetLists.{set_again}
+use Rattle.law_terms.proofs.Listed.{listed_again}
 use Rattle.law_folding.proofs.SetsKept.{set_kept}
 use Rattle.law_folding.proofs.SetsStand.{stands_set_inter, stands_set_member, stands_set_subset}
 use Rattle.law_folding.proofs.Standing.{application, itself, onward, same_type, some}

@@ -5,7 +5,7 @@ use Rattle.std.specs.List.{AllByRecursion, filter_map, cons_option}
 use Rattle.std.proofs.lemmas.List.Elements.{All-contains, All-contains_itself, All-from_recursion, recursion_from_All, Contains-append_left, Contains-append_right, Contains-push}
 use Rattle.law_folding.specs.Refinement.{AreAmong}
 use Rattle.law_terms.specs.Interpretations.{IsTable, IsSelectorTable, IsGivenSelector, IsGiven}
-use Rattle.law_terms.specs.Reached.{subterms, reached_terms, reached_variables, reached_functions, reached_options, reached_selectors, variable_of, function_of, opened_of, selector_of, selector_of_extension}
+use Rattle.law_terms.specs.Reached.{subterms, reached_terms, reached_variables, reached_functions, reached_options, reached_selectors, reached_variable, reached_function, opened_of, selector_of, selector_of_extension}
 use Rattle.law_terms.specs.Tables.{Interpretation}
 use Rattle.law_terms.specs.TypeValues.{Enums, IsValue}
 use Rattle.law_terms.proofs.Defaults.{all-join}
@@ -45,7 +45,7 @@ module _ {X Y : Type 0} (f : X → Option Y) (Q : Y → Type 0) where
 
 -- a term that asks for nothing itself
 abbrev pub AsksNothing : PlainTerm → Type 0
-AsksNothing w = (variable_of w ≡ None) × (function_of w ≡ None) × (opened_of w ≡ None) × (selector_of w ≡ None)
+AsksNothing w = (reached_variable w ≡ None) × (reached_function w ≡ None) × (opened_of w ≡ None) × (selector_of w ≡ None)
 
 -- what holds of all that asks for nothing, and of each subterm of u, holds of each subterm of t
 abbrev pub Reaches : PlainTerm → PlainTerm → Type 1
@@ -88,11 +88,11 @@ module _ (enums : Enums) (I : Interpretation) where
   abbrev Selector : ExtensionOp → Type 0
   Selector o = IsSelectorTable enums I o
 
-  variable_given : (w : PlainTerm) → IsGiven enums I w → IfSome (variable_of w) Variable
+  variable_given : (w : PlainTerm) → IsGiven enums I w → IfSome (reached_variable w) Variable
   variable_given (VariableTerm id t) h = h
   variable_given w h = tt
 
-  function_given : (w : PlainTerm) → IsGiven enums I w → IfSome (function_of w) Function
+  function_given : (w : PlainTerm) → IsGiven enums I w → IfSome (reached_function w) Function
   function_given (Application (UufOp f) ts t) h = h
   function_given (Application o ts t) h = tt
   function_given w h = tt
@@ -121,7 +121,7 @@ module _ (enums : Enums) (I : Interpretation) where
   given_selector IpPrefixV6Op h = h
   given_selector o h = tt
 
-  given_by_parts : (w : PlainTerm) → IfSome (variable_of w) Variable → IfSome (function_of w) Function → IfSome (opened_of w) Inside → IfSome (selector_of w) Selector → IsGiven enums I w
+  given_by_parts : (w : PlainTerm) → IfSome (reached_variable w) Variable → IfSome (reached_function w) Function → IfSome (opened_of w) Inside → IfSome (selector_of w) Selector → IsGiven enums I w
   given_by_parts (VariableTerm id t) v f o s = v
   given_by_parts (Application (UufOp g) ts t) v f o s = f
   given_by_parts (Application OptionGetOp ts t) v f o s = o
@@ -129,7 +129,7 @@ module _ (enums : Enums) (I : Interpretation) where
   given_by_parts (Application p ts t) v f o s = tt
   given_by_parts w v f o s = tt
 
-  all_given : (ws : List PlainTerm) → AllByRecursion (λ w. IfSome (variable_of w) Variable) ws → AllByRecursion (λ w. IfSome (function_of w) Function) ws → AllByRecursion (λ w. IfSome (opened_of w) Inside) ws → AllByRecursion (λ w. IfSome (selector_of w) Selector) ws → AllByRecursion (IsGiven enums I) ws
+  all_given : (ws : List PlainTerm) → AllByRecursion (λ w. IfSome (reached_variable w) Variable) ws → AllByRecursion (λ w. IfSome (reached_function w) Function) ws → AllByRecursion (λ w. IfSome (opened_of w) Inside) ws → AllByRecursion (λ w. IfSome (selector_of w) Selector) ws → AllByRecursion (IsGiven enums I) ws
   all_given [] v f o s = tt
   all_given (w ∷ ws) v f o s = (given_by_parts w v.0 f.0 o.0 s.0, all_given ws v.1 f.1 o.1 s.1)
 
@@ -137,7 +137,7 @@ module _ (enums : Enums) (I : Interpretation) where
   pub interpreted : (t u : PlainTerm) → AreAmong (reached_variables (t ∷ [])) (reached_variables (u ∷ [])) → AreAmong (reached_functions (t ∷ [])) (reached_functions (u ∷ [])) → AreAmong (reached_options (t ∷ [])) (reached_options (u ∷ [])) → AreAmong (reached_selectors (t ∷ [])) (reached_selectors (u ∷ [])) → AllByRecursion (IsGiven enums I) (subterms u) → AllByRecursion (IsGiven enums I) (subterms t)
   interpreted t u v f o s g =
       all_given (subterms t)
-      (through variable_of Variable t u v (all-become (IsGiven enums I) (λ w. IfSome (variable_of w) Variable) variable_given (subterms u) g))
-      (through function_of Function t u f (all-become (IsGiven enums I) (λ w. IfSome (function_of w) Function) function_given (subterms u) g))
+      (through reached_variable Variable t u v (all-become (IsGiven enums I) (λ w. IfSome (reached_variable w) Variable) variable_given (subterms u) g))
+      (through reached_function Function t u f (all-become (IsGiven enums I) (λ w. IfSome (reached_function w) Function) function_given (subterms u) g))
       (through opened_of Inside t u o (all-become (IsGiven enums I) (λ w. IfSome (opened_of w) Inside) inside_given (subterms u) g))
       (through selector_of Selector t u s (all-become (IsGiven enums I) (λ w. IfSome (selector_of w) Selector) selector_given (subterms u) g))

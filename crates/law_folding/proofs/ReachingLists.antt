@@ -5,7 +5,7 @@ use Rattle.std.specs.List.{AllByRecursion, filter_map}
 use Rattle.std.proofs.lemmas.List.Elements.{All-contains_itself, recursion_from_All}
 use Rattle.law_folding.specs.Refinement.{AreAmong, ReachNoMore, Refines}
 use Rattle.law_folding.proofs.Reaching.{AsksNothing, each, gathered, held}
-use Rattle.law_terms.specs.Reached.{subterms, subterms_of_all, reached_terms, variable_of, function_of, opened_of, selector_of}
+use Rattle.law_terms.specs.Reached.{subterms, subterms_of_all, reached_terms, reached_variable, reached_function, opened_of, selector_of}
 use Rattle.law_terms.proofs.Defaults.{all-join}
 use Rattle.law_terms.specs.Plain.{PlainTerm, terms}
 
@@ -33,8 +33,8 @@ module _ {Y : Type 0} (f : PlainTerm → Option Y) (quiet : (w : PlainTerm) → 
 
 pub reach_no_more : (t : PlainTerm) (ts : List PlainTerm) → ReachesOnly t ts → ReachNoMore (t ∷ []) ts
 reach_no_more t ts only = record {
-  variables = among_all variable_of (λ w a. a.0) t ts only;
-  functions = among_all function_of (λ w a. a.1) t ts only;
+  variables = among_all reached_variable (λ w a. a.0) t ts only;
+  functions = among_all reached_function (λ w a. a.1) t ts only;
   options = among_all opened_of (λ w a. a.2) t ts only;
   selectors = among_all selector_of (λ w a. a.3) t ts only;
 }

@@ -11,7 +11,7 @@ use Rattle.law_terms.specs.Formed.{IsFormedHere, IsFormedType, IsFormedNode, IsF
 use Rattle.law_terms.specs.Parts.{attribute_names}
 use Rattle.law_terms.specs.Interpretations.{IsGiven, IsInterpretation}
 use Rattle.law_terms.specs.Meaning.{meaning, field_meanings, term_value}
-use Rattle.law_terms.specs.Reached.{subterms, subterms_of_fields, reached_terms, types_within, types_within_attributes, variable_of, function_of, opened_of, selector_of}
+use Rattle.law_terms.specs.Reached.{subterms, subterms_of_fields, reached_terms, types_within, types_within_attributes, reached_variable, reached_function, opened_of, selector_of}
 use Rattle.law_terms.specs.Tables.{Interpretation}
 use Rattle.law_terms.specs.Types.{type_of, field_types}
 use Rattle.law_terms.specs.Typing.{typed, typed_fields}
@@ -101,8 +101,8 @@ pub fields : (fs gs : PlainFields) → FieldsRefine fs gs → Refines (RecordTer
 fields fs gs s = record {
   formed = formed_record fs gs s;
   type = λ ty h. (let r = types_of_fields fs gs s h.parts in record { parts = r.0; type = ap RecordType r.1 ∙ h.type });
-  variables = record_among variable_of (λ t u s. s.variables) fs gs s refl;
-  functions = record_among function_of (λ t u s. s.functions) fs gs s refl;
+  variables = record_among reached_variable (λ t u s. s.variables) fs gs s refl;
+  functions = record_among reached_function (λ t u s. s.functions) fs gs s refl;
   options = record_among opened_of (λ t u s. s.options) fs gs s refl;
   selectors = record_among selector_of (λ t u s. s.selectors) fs gs s refl;
   value = λ ty enums I f h i. (

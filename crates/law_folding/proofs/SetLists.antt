@@ -24,7 +24,7 @@ use Rattle.law_terms.proofs.SortedValues.{ascends-sorted}
 use Rattle.law_terms.proofs.Soundness.{all-front, all-back}
 use Rattle.law_terms.proofs.TermTotal.{types_decided}
 use Rattle.law_terms.proofs.TotalOrder.{values_total}
-use Rattle.law_terms.proofs.Listed.{listed}
+use Rattle.law_terms.proofs.Listed.{listed, listed_again}
 use Rattle.law_terms.proofs.TypeOrder.{eq_same}
 use Rattle.law_terms.specs.Plain.{PlainType, PlainTerm, SetTerm, PlainTerms, no_terms, one_term, list_of_terms, terms}
 use Rattle.law_terms.specs.Values.{Value, SetValue}
@@ -89,10 +89,6 @@ pub same_truth : (a b : Bool) → (a ≡ true → b ≡ true) → (b ≡ true �
 same_truth true b f g = sym (f refl)
 same_truth false true f g = g refl
 same_truth false false f g = refl
-
-pub listed_again : (ts : PlainTerms) → terms (list_of_terms ts) ≡ ts
-listed_again no_terms = refl
-listed_again (one_term t ts) = ap (one_term t) (listed_again ts)
 
 -- ---- subterms of elements
 

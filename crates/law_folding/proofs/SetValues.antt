@@ -3,7 +3,8 @@ use Rattle.std.proofs.Common.{◌≡◌, true, List, [], ◌∷◌, refl, ap, �
 use Rattle.std.specs.Prelude.{filter}
 use Rattle.std.specs.List.{AllByRecursion, list_all}
 use Rattle.law_folding.specs.FoldSets.{is_among}
-use Rattle.law_folding.proofs.SetLists.{HasValue, IsElement, each_of, each_passed, elements_typed, find, found, keep, kept, listed_again, literal_each, meaning_from, meaning_in, of_each, passed_each, same_set, same_truth}
+use Rattle.law_folding.proofs.SetLists.{HasValue, IsElement, each_of, each_passed, elements_typed, find, found, keep, kept, literal_each, meaning_from, meaning_in, of_each, passed_each, same_set, same_truth}
+use Rattle.law_terms.proofs.Listed.{listed_again}
 use Rattle.law_terms.specs.Formed.{IsFormedNode}
 use Rattle.law_terms.specs.Literals.{are_literals, is_literal}
 use Rattle.law_terms.specs.Meaning.{meaning, meanings}

@@ -10,7 +10,7 @@ use Rattle.law_folding.proofs.Standing.{Given, StandAmong, all_through, formed_a
 use Rattle.law_terms.specs.Formed.{IsFormedNode, IsFormed}
 use Rattle.law_terms.specs.Interpretations.{IsGiven}
 use Rattle.law_terms.specs.Meaning.{meanings}
-use Rattle.law_terms.specs.Reached.{subterms, subterms_of_all, reached_terms, variable_of, function_of, opened_of, selector_of}
+use Rattle.law_terms.specs.Reached.{subterms, subterms_of_all, reached_terms, reached_variable, reached_function, opened_of, selector_of}
 use Rattle.law_terms.specs.Tables.{Interpretation}
 use Rattle.law_terms.specs.TermSets.{set_term, sorted_terms}
 use Rattle.law_terms.specs.Typing.{typed}
@@ -71,8 +71,8 @@ module _ (ty : PlainType) (ts us : List PlainTerm) (z : AllZip Refines ts us) wh
   set_kept = record {
     formed = formed;
     type = λ y h. record { parts = kept_typed h.parts; type = h.type };
-    variables = set_among variable_of (λ t u s. s.variables) ty ts us z refl;
-    functions = set_among function_of (λ t u s. s.functions) ty ts us z refl;
+    variables = set_among reached_variable (λ t u s. s.variables) ty ts us z refl;
+    functions = set_among reached_function (λ t u s. s.functions) ty ts us z refl;
     options = set_among opened_of (λ t u s. s.options) ty ts us z refl;
     selectors = set_among selector_of (λ t u s. s.selectors) ty ts us z refl;
     value = λ y enums I f h i. valued I (set_term ty ts) (kept_typed h.parts) ∙ (kept_value enums I h.parts f (all-front (IsGiven enums I) (subterms (set_term ty us)) [] i) ∙ sym (valued I (set_term ty us) h.parts));

@@ -18,7 +18,8 @@ use Rattle.law_folding.specs.Refinement.{Refines}
 use Rattle.law_folding.proofs.ConnectivesStand.{chosen_type, first_argument, second_argument, same_term}
 use Rattle.law_folding.proofs.EqualityStands.{equal_for_eq, literal_for_eq}
 use Rattle.law_folding.proofs.Records.{HasFormedType}
-use Rattle.law_folding.proofs.SetLists.{IsElement, among_them, elements_typed, filtered, kept, listed_again, set_typed}
+use Rattle.law_folding.proofs.SetLists.{IsElement, among_them, elements_typed, filtered, kept, set_typed}
+use Rattle.law_terms.proofs.Listed.{listed_again}
 use Rattle.law_folding.proofs.SetValues.{IsLiteralElement, among_is, common_is, inter_itself, literal_elements, none_common, subset_is, subset_itself}
 use Rattle.law_folding.proofs.SetsKept.{of_set}
 use Rattle.law_folding.proofs.Standing.{itself, last_of, one_of, standing, standing_within, truth_standing}

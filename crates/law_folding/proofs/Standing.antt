@@ -11,7 +11,7 @@ use Rattle.law_terms.specs.Formed.{IsFormedHere, IsFormedType, IsFormedNode, IsF
 use Rattle.law_terms.specs.Interpretations.{IsGiven}
 use Rattle.law_terms.specs.Meaning.{meaning, meanings, term_value}
 use Rattle.law_terms.specs.Operators.{apply}
-use Rattle.law_terms.specs.Reached.{subterms, subterms_of_all, subterms_of_fields, reached_terms, types_within, variable_of, function_of, opened_of, opened_of_op, selector_of}
+use Rattle.law_terms.specs.Reached.{subterms, subterms_of_all, subterms_of_fields, reached_terms, types_within, reached_variable, reached_function, opened_of, opened_of_op, selector_of}
 use Rattle.law_terms.specs.Tables.{Interpretation}
 use Rattle.law_terms.specs.Types.{type_of, types_of, result_type, is_type}
 use Rattle.law_terms.specs.Typing.{typed, typed_all, Typed}
@@ -41,8 +41,8 @@ pub standing : (t u : PlainTerm) → Reaches t u → (IsFormed u → IsFormed t)
 standing t u r f y v = record {
   formed = f;
   type = λ ty h. record { parts = (y h.parts).0; type = (y h.parts).1 ∙ h.type };
-  variables = among variable_of (λ w a. a.0) t u r;
-  functions = among function_of (λ w a. a.1) t u r;
+  variables = among reached_variable (λ w a. a.0) t u r;
+  functions = among reached_function (λ w a. a.1) t u r;
   options = among opened_of (λ w a. a.2) t u r;
   selectors = among selector_of (λ w a. a.3) t u r;
   value = λ ty enums I g h i. valued I t (y h.parts).0 ∙ (v enums I h.parts g (all-front (IsGiven enums I) (subterms u) [] i) ∙ sym (valued I u h.parts));
@@ -192,8 +192,8 @@ application o ts us ty z = record {
       let a : typed_all (terms us) ≡ true = first_so (typed_all (terms us)) (is_type (result_type o (types_of (terms us))) ty) h.parts in
       let r = types_all ts us z a in
       record { parts = both_true r.0 (ap (λ l. is_type (result_type o l) ty) r.1 ∙ second_so (typed_all (terms us)) (is_type (result_type o (types_of (terms us))) ty) h.parts); type = h.type });
-  variables = application_among variable_of (λ t u s. s.variables) o ts us ty ty z refl;
-  functions = application_among function_of (λ t u s. s.functions) o ts us ty ty z refl;
+  variables = application_among reached_variable (λ t u s. s.variables) o ts us ty ty z refl;
+  functions = application_among reached_function (λ t u s. s.functions) o ts us ty ty z refl;
   options = application_among opened_of (λ t u s. s.options) o ts us ty ty z refl;
   selectors = application_among selector_of (λ t u s. s.selectors) o ts us ty ty z refl;
   value = λ y enums I f h i. (
@@ -227,8 +227,8 @@ some t u s = record {
       let g : IsFormed t = s.formed (record { literals = all-front IsFormedNode (subterms u) (SomeTerm u ∷ []) f.literals; types = all-front (λ w. IsFormedType (type_of w)) (subterms u) (SomeTerm u ∷ []) f.types }) in
       record { literals = all-join IsFormedNode (subterms t) (SomeTerm t ∷ []) g.literals (tt, tt); types = all-join (λ w. IsFormedType (type_of w)) (subterms t) (SomeTerm t ∷ []) g.types (option_type (type_of t) (last_type t g), tt) });
   type = λ y h. (let r = same_type t u s h.parts in record { parts = r.0; type = ap OptionType r.1 ∙ h.type });
-  variables = some_among variable_of (λ t u s. s.variables) t u s refl;
-  functions = some_among function_of (λ t u s. s.functions) t u s refl;
+  variables = some_among reached_variable (λ t u s. s.variables) t u s refl;
+  functions = some_among reached_function (λ t u s. s.functions) t u s refl;
   options = some_among opened_of (λ t u s. s.options) t u s refl;
   selectors = some_among selector_of (λ t u s. s.selectors) t u s refl;
   value = λ y enums I f h i. (
@@ -246,8 +246,8 @@ module _ (o : PlainOp) (ts us : List PlainTerm) (a b : PlainType) (z : AllZip Re
         let r = formed_all ts us z (all-front IsFormedNode (subterms_of_all (terms us)) (Application o (terms us) b ∷ []) f.literals) (all-front (λ w. IsFormedType (type_of w)) (subterms_of_all (terms us)) (Application o (terms us) b ∷ []) f.types) in
         record { literals = all-join IsFormedNode (subterms_of_all (terms ts)) (Application o (terms ts) a ∷ []) r.0 (tt, tt); types = all-join (λ w. IsFormedType (type_of w)) (subterms_of_all (terms ts)) (Application o (terms ts) a ∷ []) r.1 (formed_type r.1, tt) });
     type = λ y h. absurd (never h.parts);
-    variables = application_among variable_of (λ t u s. s.variables) o ts us a b z refl;
-    functions = application_among function_of (λ t u s. s.functions) o ts us a b z refl;
+    variables = application_among reached_variable (λ t u s. s.variables) o ts us a b z refl;
+    functions = application_among reached_function (λ t u s. s.functions) o ts us a b z refl;
     options = application_among opened_of (λ t u s. s.options) o ts us a b z asked;
     selectors = application_among selector_of (λ t u s. s.selectors) o ts us a b z refl;
     value = λ y enums I f h i. absurd (never h.parts);

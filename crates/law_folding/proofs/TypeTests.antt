@@ -13,7 +13,7 @@ use Rattle.law_folding.proofs.Records.{HasFormedType}
 use Rattle.law_folding.proofs.Standing.{application, itself, last_type, same_type, truth_standing}
 use Rattle.law_terms.specs.Formed.{IsFormedNode, IsFormedType, IsFormed}
 use Rattle.law_terms.specs.Meaning.{meaning}
-use Rattle.law_terms.specs.Reached.{subterms, subterms_of_all, variable_of, function_of, opened_of, selector_of}
+use Rattle.law_terms.specs.Reached.{subterms, subterms_of_all, reached_variable, reached_function, opened_of, selector_of}
 use Rattle.law_terms.specs.Types.{type_of}
 use Rattle.law_terms.specs.Typing.{typed}
 use Rattle.law_terms.proofs.Defaults.{all-join}
@@ -82,8 +82,8 @@ module _ (part : PlainType → Option PlainType) (made : PlainType → PlainTerm
   test_of_untyped t u e s = record {
     formed = λ f. test_formed t (s.formed (record { literals = inside_test IsFormedNode (part (type_of u)) u f.literals; types = inside_test HasFormedType (part (type_of u)) u f.types }));
     type = λ ty h. absurd (never h.parts);
-    variables = λ y m. among variable_of (λ w a. a.0) u (test u) back y (s.variables y (among variable_of (λ w a. a.0) (test t) t (test_reaches (part (type_of t)) t) y m));
-    functions = λ y m. among function_of (λ w a. a.1) u (test u) back y (s.functions y (among function_of (λ w a. a.1) (test t) t (test_reaches (part (type_of t)) t) y m));
+    variables = λ y m. among reached_variable (λ w a. a.0) u (test u) back y (s.variables y (among reached_variable (λ w a. a.0) (test t) t (test_reaches (part (type_of t)) t) y m));
+    functions = λ y m. among reached_function (λ w a. a.1) u (test u) back y (s.functions y (among reached_function (λ w a. a.1) (test t) t (test_reaches (part (type_of t)) t) y m));
     options = λ y m. among opened_of (λ w a. a.2) u (test u) back y (s.options y (among opened_of (λ w a. a.2) (test t) t (test_reaches (part (type_of t)) t) y m));
     selectors = λ y m. among selector_of (λ w a. a.3) u (test u) back y (s.selectors y (among selector_of (λ w a. a.3) (test t) t (test_reaches (part (type_of t)) t) y m));
     value = λ ty enums I f h i. absurd (never h.parts);

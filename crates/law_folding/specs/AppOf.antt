@@ -12,4 +12,5 @@ use Rattle.law_terms.specs.TypeValues.{Enums}
 -- function's value at the argument's value.
 pub record IsAppOf (f : PlainUnary) (t r : PlainTerm) : Type 0 where
   pub type : Typed r (output_type f)
-  pub value : (enums : Enums) (I : Interpretation) → IsInterpretation enums (t ∷ defining_terms f) I → term_value I r ≡ function_value I f (term_value I t)
+  pub value : (enums : Enums) (I : Interpretation) → IsInterpretation enums (t ∷ defining_terms f) I →
+      term_value I r ≡ function_value I f (term_value I t)

@@ -2,7 +2,9 @@
 use Rattle.std.specs.Prelude.{ℕ, ◌+◌, Bool, true, false, List, [], ◌∷◌}
 use Rattle.std.specs.Option.{unwrap_or}
 use Rattle.law_terms.specs.Types.{attribute_type, extension_signature, type_of}
-use Rattle.law_terms.specs.Plain.{PlainType, OptionType, BitVecType, BoolType, ExtensionOp, PatternPart, PlainOp, AndOp, BvnegOp, BvnegoOp, EqOp, ExtOp, IteOp, NotOp, OptionGetOp, OrOp, RecordGetOp, SetInterOp, SetMemberOp, SetSubsetOp, StringLikeOp, ZeroExtendOp, BitVecLiteral, BoolLiteral, PlainTerm, Application, LiteralTerm, terms}
+use Rattle.law_terms.specs.Plain.{PlainType, OptionType, BitVecType, BoolType, ExtensionOp, PatternPart, PlainOp, AndOp, BvnegOp, BvnegoOp}
+use Rattle.law_terms.specs.Plain.{EqOp, ExtOp, IteOp, NotOp, OptionGetOp, OrOp, RecordGetOp, SetInterOp, SetMemberOp, SetSubsetOp}
+use Rattle.law_terms.specs.Plain.{StringLikeOp, ZeroExtendOp, BitVecLiteral, BoolLiteral, PlainTerm, Application, LiteralTerm, terms}
 
 -- a truth value as a literal
 abbrev pub truth_literal : Bool → PlainTerm

@@ -2,7 +2,9 @@
 -- are written over it.
 use Rattle.std.specs.Prelude.{ℕ, List, Option, None}
 use Rattle.law_numbers.specs.BitOperators.{BitsOperator, TestOperator, OverflowOperator}
-use Rattle.law_folding.specs.Applications.{false_term, not_of, and_of, or_of, eq_of, ite_of, never_of, bvneg_of, bits_of_two, test_of_two, bvnego_of, zero_extend_of, string_like_of, set_member_of, set_subset_of, set_inter_of, option_get_of, record_get_of, extension_of}
+use Rattle.law_folding.specs.Applications.{false_term, not_of, and_of, or_of, eq_of, ite_of, never_of, bvneg_of, bits_of_two, test_of_two}
+use Rattle.law_folding.specs.Applications.{bvnego_of, zero_extend_of, string_like_of, set_member_of, set_subset_of, set_inter_of}
+use Rattle.law_folding.specs.Applications.{option_get_of, record_get_of, extension_of}
 use Rattle.law_folding.specs.FoldBits.{folded_bits, folded_bvneg, folded_bvnego, folded_overflow, folded_test, folded_zero_extend}
 use Rattle.law_folding.specs.FoldConnectives.{folded_not, folded_and, folded_or}
 use Rattle.law_folding.specs.FoldEquality.{folded_eq, folded_ite}

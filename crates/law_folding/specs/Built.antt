@@ -11,7 +11,10 @@ use Rattle.law_folding.specs.FoldSets.{folded_set_member, folded_set_subset, fol
 use Rattle.law_folding.specs.FoldStrings.{folded_string_like}
 use Rattle.law_folding.specs.Refinement.{Refines}
 use Rattle.law_terms.specs.Faults.{term_fault}
-use Rattle.law_terms.specs.Plain.{PlainType, PlainOp, AndOp, BvnegOp, BvnegoOp, EqOp, ExtOp, IteOp, NotOp, OptionGetOp, OrOp, RecordGetOp, SetInterOp, SetMemberOp, SetSubsetOp, StringLikeOp, ZeroExtendOp, PlainTerm, Application, NoneTerm, LiteralTerm, RecordTerm, SetTerm, SomeTerm, VariableTerm, PlainTerms, no_terms, one_term, PlainFields, no_fields, one_field, terms, BitsOp, TestOp, OverflowOp}
+use Rattle.law_terms.specs.Plain.{PlainType, PlainOp, AndOp, BvnegOp, BvnegoOp, EqOp, ExtOp, IteOp, NotOp, OptionGetOp, OrOp, RecordGetOp}
+use Rattle.law_terms.specs.Plain.{SetInterOp, SetMemberOp, SetSubsetOp, StringLikeOp, ZeroExtendOp, PlainTerm, Application, NoneTerm}
+use Rattle.law_terms.specs.Plain.{LiteralTerm, RecordTerm, SetTerm, SomeTerm, VariableTerm, PlainTerms, no_terms, one_term, PlainFields}
+use Rattle.law_terms.specs.Plain.{no_fields, one_field, terms, BitsOp, TestOp, OverflowOp}
 use Rattle.law_terms.specs.TermSets.{set_term}
 use Rattle.law_terms.specs.Typing.{typed}
 use Rattle.law_terms.specs.TypeValues.{Enums}

@@ -35,7 +35,8 @@ pub record Related (b c : Builder) : Type 0 where
   pub set_inter : {t u v w : PlainTerm} → Refines t u → Refines v w → Refines (b.set_inter t v) (c.set_inter u w)
   pub set_is_empty : {t u : PlainTerm} → Refines t u → Refines (set_is_empty b t) (set_is_empty c u)
   pub option_get : {t u : PlainTerm} → RefinesWithType t u → RefinesWithType (b.option_get t) (c.option_get u)
-  pub record_get : {t u : PlainTerm} → (attribute : List ℕ) → RefinesWithType t u → RefinesWithType (b.record_get t attribute) (c.record_get u attribute)
+  pub record_get : {t u : PlainTerm} → (attribute : List ℕ) → RefinesWithType t u →
+      RefinesWithType (b.record_get t attribute) (c.record_get u attribute)
   pub extension : (o : ExtensionOp) → {t u : PlainTerm} → Refines t u → RefinesWithType (b.extension o t) (c.extension o u)
   pub is_none : {t u : PlainTerm} → Refines t u → Refines (is_none b t) (is_none c u)
 

@@ -1,7 +1,8 @@
 -- The folding of the operators on bits: literals are computed with, and all else stays an application.
 use Rattle.std.specs.Prelude.{ℕ, ◌+◌, ◌-◌, ◌^◌, Bool, true, cond, ◌&&◌, ◌==◌, nat_le}
 use Rattle.std.specs.Option.{unwrap_or}
-use Rattle.law_numbers.specs.BitOperators.{BitsOperator, TestOperator, OverflowOperator, BvlshrOp, BvshlOp, bits_entry, test_entry, overflow_entry}
+use Rattle.law_numbers.specs.BitOperators.{BitsOperator, TestOperator, OverflowOperator, BvlshrOp, BvshlOp, bits_entry, test_entry}
+use Rattle.law_numbers.specs.BitOperators.{overflow_entry}
 use Rattle.law_numbers.specs.Shifts.{greatest_shift}
 use Rattle.law_numbers.specs.BitVectors as bits
 use Rattle.law_folding.specs.Applications.{truth_literal, bits_literal, bvneg_of, bits_of_two, test_of_two, bvnego_of, zero_extend_of}
@@ -24,7 +25,8 @@ takes_right o b = true
 -- an operator from bits to bits: two literals of one width are computed with, where it takes the second's number
 abbrev pub folded_bits : BitsOperator → PlainTerm → PlainTerm → PlainTerm
 folded_bits o (LiteralTerm (BitVecLiteral n a)) (LiteralTerm (BitVecLiteral m b)) =
-    cond (n == m && takes_right o b) (bits_literal n ((bits_entry o).function n a b)) (bits_of_two (BitsOp o) (bits_literal n a) (bits_literal m b))
+    cond (n == m && takes_right o b) (bits_literal n ((bits_entry o).function n a b))
+    (bits_of_two (BitsOp o) (bits_literal n a) (bits_literal m b))
 folded_bits o t u = bits_of_two (BitsOp o) t u
 
 -- a test of two literals of one width, by what it computes of their numbers

@@ -2,7 +2,10 @@
 use Rattle.std.specs.Prelude.{ℕ, ℤ, cond, ◌==◌, Option, Some, None}
 use Rattle.law_numbers.specs.BitVectors.{bits_of, signed}
 use Rattle.law_folding.specs.Applications.{true_term, false_term, bits_literal, extension_of}
-use Rattle.law_terms.specs.Plain.{BitVecType, ExtensionOp, DatetimeOfBitVecOp, DatetimeValOp, DecimalValOp, DurationOfBitVecOp, DurationValOp, IpAddrV4Op, IpAddrV6Op, IpIsV4Op, IpPrefixV4Op, IpPrefixV6Op, PlainExtension, DecimalOf, Ipv4Of, Ipv6Of, DatetimeOf, DurationOf, BitVecLiteral, ExtensionLiteral, PlainTerm, LiteralTerm, NoneTerm, SomeTerm}
+use Rattle.law_terms.specs.Plain.{BitVecType, ExtensionOp, DatetimeOfBitVecOp, DatetimeValOp, DecimalValOp, DurationOfBitVecOp}
+use Rattle.law_terms.specs.Plain.{DurationValOp, IpAddrV4Op, IpAddrV6Op, IpIsV4Op, IpPrefixV4Op, IpPrefixV6Op, PlainExtension, DecimalOf}
+use Rattle.law_terms.specs.Plain.{Ipv4Of, Ipv6Of, DatetimeOf, DurationOf, BitVecLiteral, ExtensionLiteral, PlainTerm, LiteralTerm, NoneTerm}
+use Rattle.law_terms.specs.Plain.{SomeTerm}
 
 -- a value of an extension type as a literal
 abbrev pub extension_literal : PlainExtension → PlainTerm

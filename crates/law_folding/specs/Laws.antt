@@ -3,9 +3,12 @@ use Rattle.std.specs.Prelude.{◌≡◌, ◌↔◌, ℕ, ◌^◌, ◌<◌, Bool,
 use Rattle.std.specs.List.{AllByRecursion, AllZip, list_any}
 use Rattle.law_numbers.specs.BitOperators.{BitsOperator, TestOperator, OverflowOperator}
 use Rattle.law_folding.specs.AppOf.{IsAppOf}
-use Rattle.law_folding.specs.Applications.{truth_literal, bits_literal, not_of, and_of, or_of, eq_of, ite_of, bvneg_of, bits_of_two, test_of_two, bvnego_of, zero_extend_of, string_like_of, set_member_of, set_subset_of, set_inter_of, option_get_of, record_get_of, extension_of}
+use Rattle.law_folding.specs.Applications.{truth_literal, bits_literal, not_of, and_of, or_of, eq_of, ite_of, bvneg_of, bits_of_two}
+use Rattle.law_folding.specs.Applications.{test_of_two, bvnego_of, zero_extend_of, string_like_of, set_member_of, set_subset_of}
+use Rattle.law_folding.specs.Applications.{set_inter_of, option_get_of, record_get_of, extension_of}
 use Rattle.law_folding.specs.Builder.{applied, folding}
-use Rattle.law_folding.specs.Composites.{any_none, any_of, if_all_some, if_false, if_some, if_true, implies, is_none, is_some, set_intersects, set_is_empty}
+use Rattle.law_folding.specs.Composites.{any_none, any_of, if_all_some, if_false, if_some, if_true, implies, is_none, is_some}
+use Rattle.law_folding.specs.Composites.{set_intersects, set_is_empty}
 use Rattle.law_folding.specs.FoldBits.{folded_bits, folded_bvneg, folded_bvnego, folded_overflow, folded_test, folded_zero_extend}
 use Rattle.law_folding.specs.FoldConnectives.{folded_not, folded_and, folded_or}
 use Rattle.law_folding.specs.FoldEquality.{folded_eq, folded_ite}
@@ -27,14 +30,16 @@ use Rattle.law_terms.specs.TermSets.{set_term}
 use Rattle.law_terms.specs.Types.{attribute_type, type_of}
 use Rattle.law_terms.specs.Typing.{typed, Typed, AreBoolean}
 use Rattle.law_terms.specs.TypeValues.{Enums}
-use Rattle.law_terms.specs.Plain.{PlainType, BitVecType, BoolType, ExtensionOp, PatternPart, PlainOp, PlainTerm, Application, RecordTerm, SomeTerm, PlainFields, terms, BitsOp, TestOp, OverflowOp}
+use Rattle.law_terms.specs.Plain.{PlainType, BitVecType, BoolType, ExtensionOp, PatternPart, PlainOp, PlainTerm, Application, RecordTerm}
+use Rattle.law_terms.specs.Plain.{SomeTerm, PlainFields, terms, BitsOp, TestOp, OverflowOp}
 use Rattle.law_terms.specs.Values.{BoolValue, BitVecValue}
 
 -- standing for is an order that applications, `some`, records and sets keep, and the tests for none and for the empty set
 pub record RefinementIsKept : Type 0 where
   pub itself : (t : PlainTerm) → Refines t t
   pub onward : (t u w : PlainTerm) → Refines t u → Refines u w → Refines t w
-  pub application : (o : PlainOp) (ts us : List PlainTerm) (ty : PlainType) → AllZip Refines ts us → Refines (Application o (terms ts) ty) (Application o (terms us) ty)
+  pub application : (o : PlainOp) (ts us : List PlainTerm) (ty : PlainType) → AllZip Refines ts us →
+      Refines (Application o (terms ts) ty) (Application o (terms us) ty)
   pub some : (t u : PlainTerm) → Refines t u → Refines (SomeTerm t) (SomeTerm u)
   pub fields : (fs gs : PlainFields) → FieldsRefine fs gs → Refines (RecordTerm fs) (RecordTerm gs)
   pub set : (ty : PlainType) (ts us : List PlainTerm) → AllZip Refines ts us → Refines (set_term ty ts) (set_term ty us)
@@ -43,15 +48,21 @@ pub record RefinementIsKept : Type 0 where
 
 -- an interpretation of terms is one of the terms that stand for them
 abbrev pub InterpretationsPass : Type 0
-InterpretationsPass = (enums : Enums) (I : Interpretation) (ts us : List PlainTerm) → AllZip Refines ts us → IsInterpretation enums us I → IsInterpretation enums ts I
+InterpretationsPass =
+    (enums : Enums) (I : Interpretation) (ts us : List PlainTerm) → AllZip Refines ts us → IsInterpretation enums us I →
+    IsInterpretation enums ts I
 
 -- formed and typed terms have in every interpretation the values of the terms that stand for them
 abbrev pub ValuesPass : Type 0
-ValuesPass = (enums : Enums) (I : Interpretation) (ts us : List PlainTerm) → AllZip Refines ts us → AllByRecursion IsFormed us → AllByRecursion (λ u. IsTrue (typed u)) us → IsInterpretation enums us I → map (term_value I) ts ≡ map (term_value I) us
+ValuesPass =
+    (enums : Enums) (I : Interpretation) (ts us : List PlainTerm) → AllZip Refines ts us → AllByRecursion IsFormed us →
+    AllByRecursion (λ u. IsTrue (typed u)) us → IsInterpretation enums us I → map (term_value I) ts ≡ map (term_value I) us
 
 -- two literals of one type are equal exactly where their values are
 abbrev pub LiteralsAreEqualByValue : Type 0
-LiteralsAreEqualByValue = (I : Interpretation) (t u : PlainTerm) (ty : PlainType) → IsTrue (is_literal t) → IsTrue (is_literal u) → Typed t ty → Typed u ty → IsFormed t → IsFormed u → (t ≡ u) ↔ (term_value I t ≡ term_value I u)
+LiteralsAreEqualByValue =
+    (I : Interpretation) (t u : PlainTerm) (ty : PlainType) → IsTrue (is_literal t) → IsTrue (is_literal u) → Typed t ty → Typed u ty →
+    IsFormed t → IsFormed u → (t ≡ u) ↔ (term_value I t ≡ term_value I u)
 
 -- what the folding of each connective gives stands for the application that is asked for
 pub record ConnectivesAreFolded : Type 0 where
@@ -63,7 +74,9 @@ pub record ConnectivesAreFolded : Type 0 where
 
 -- the disjunction of Boolean terms is true in an interpretation exactly where one of them is; of none it is false
 abbrev pub AnyIsTrue : Type 0
-AnyIsTrue = (I : Interpretation) (ts : List PlainTerm) → AreBoolean ts → term_value I (any_of applied ts) ≡ BoolValue (list_any (λ t. truth (term_value I t)) ts)
+AnyIsTrue =
+    (I : Interpretation) (ts : List PlainTerm) → AreBoolean ts →
+    term_value I (any_of applied ts) ≡ BoolValue (list_any (λ t. truth (term_value I t)) ts)
 
 -- what the foldings of equality and choice give stands for the application that is asked for
 pub record EqualityAndChoiceAreFolded : Type 0 where
@@ -109,8 +122,10 @@ pub record OptionsAreFolded : Type 0 where
 -- value, which is that of the record's attribute in every interpretation.
 pub record RecordsAreFolded : Type 0 where
   pub record_get : (t : PlainTerm) (x : List ℕ) → Refines (folded_record_get t x) (record_get_of t x)
-  pub type : (t : PlainTerm) (x : List ℕ) (ty : PlainType) → IsTrue (typed t) → attribute_type x (type_of t) ≡ Some ty → Typed (folded_record_get t x) ty
-  pub value : (I : Interpretation) (t : PlainTerm) (x : List ℕ) (ty : PlainType) → IsTrue (typed t) → attribute_type x (type_of t) ≡ Some ty → term_value I (folded_record_get t x) ≡ attribute_value x (term_value I t)
+  pub type : (t : PlainTerm) (x : List ℕ) (ty : PlainType) → IsTrue (typed t) → attribute_type x (type_of t) ≡ Some ty →
+      Typed (folded_record_get t x) ty
+  pub value : (I : Interpretation) (t : PlainTerm) (x : List ℕ) (ty : PlainType) → IsTrue (typed t) →
+      attribute_type x (type_of t) ≡ Some ty → term_value I (folded_record_get t x) ≡ attribute_value x (term_value I t)
 
 -- what the foldings of the operators of extension types give stands for the application that is asked for
 abbrev pub ExtensionsAreFolded : Type 0
@@ -120,9 +135,14 @@ ExtensionsAreFolded = (o : ExtensionOp) (t : PlainTerm) → Refines (folded_exte
 -- function's value.
 pub record FunctionsAreFolded : Type 0 where
   pub app : (f : PlainUnary) (t : PlainTerm) → HasLiteralKeys f → Refines (folded_app f t) (app_of f t)
-  pub value : (f : PlainUnary) (t : PlainTerm) → HasLiteralKeys f → IsTypedFunction f → Typed t (argument_type f) → AllByRecursion IsFormed (t ∷ defining_terms f) → IsAppOf f t (folded_app f t)
+  pub value : (f : PlainUnary) (t : PlainTerm) → HasLiteralKeys f → IsTypedFunction f → Typed t (argument_type f) →
+      AllByRecursion IsFormed (t ∷ defining_terms f) → IsAppOf f t (folded_app f t)
 
 -- what has the operator's value at two literals stands for the application, whoever computed it
 pub record AnswersRefine : Type 0 where
-  pub bits : (o : PlainOp) (n a b c : ℕ) → c < 2 ^ n → ((I : Interpretation) → apply I o (BitVecType n) (BitVecValue n a ∷ BitVecValue n b ∷ []) ≡ BitVecValue n c) → Refines (bits_literal n c) (bits_of_two o (bits_literal n a) (bits_literal n b))
-  pub test : (o : PlainOp) (n a m b : ℕ) (c : Bool) → ((I : Interpretation) → apply I o BoolType (BitVecValue n a ∷ BitVecValue m b ∷ []) ≡ BoolValue c) → Refines (truth_literal c) (test_of_two o (bits_literal n a) (bits_literal m b))
+  pub bits : (o : PlainOp) (n a b c : ℕ) → c < 2 ^ n →
+      ((I : Interpretation) → apply I o (BitVecType n) (BitVecValue n a ∷ BitVecValue n b ∷ []) ≡ BitVecValue n c) →
+      Refines (bits_literal n c) (bits_of_two o (bits_literal n a) (bits_literal n b))
+  pub test : (o : PlainOp) (n a m b : ℕ) (c : Bool) →
+      ((I : Interpretation) → apply I o BoolType (BitVecValue n a ∷ BitVecValue m b ∷ []) ≡ BoolValue c) →
+      Refines (truth_literal c) (test_of_two o (bits_literal n a) (bits_literal m b))

@@ -1,7 +1,8 @@
 -- What the foldings look for in a term.
 use Rattle.std.specs.Prelude.{ℕ, Bool, true, false, List, [], ◌∷◌, Option, Some, None}
 use Rattle.law_terms.specs.Literals.{are_literals}
-use Rattle.law_terms.specs.Plain.{PlainType, SetType, BvnegOp, NotOp, BitVecLiteral, StringLiteral, PlainTerm, Application, LiteralTerm, NoneTerm, RecordTerm, SetTerm, SomeTerm, no_terms, one_term, list_of_terms}
+use Rattle.law_terms.specs.Plain.{PlainType, SetType, BvnegOp, NotOp, BitVecLiteral, StringLiteral, PlainTerm, Application, LiteralTerm}
+use Rattle.law_terms.specs.Plain.{NoneTerm, RecordTerm, SetTerm, SomeTerm, no_terms, one_term, list_of_terms}
 
 -- the one term of a list that has exactly one
 abbrev pub only_one : List PlainTerm → Option PlainTerm

@@ -20,5 +20,6 @@ last_given ps x = lookup (bytes_eq x) (reverse ps)
 pub record IsRecordOf (ps : List (List ℕ × PlainTerm)) (r : PlainTerm) : Type 0 where
   pub typed : IsTrue (typed r)
   pub types : (x : List ℕ) → attribute_type x (type_of r) ≡ option_map type_of (last_given ps x)
-  pub value : (I : Interpretation) (x : List ℕ) → attribute_value x (term_value I r) ≡ option_map_or (term_value I) (last_given ps x) (BoolValue false)
+  pub value : (I : Interpretation) (x : List ℕ) →
+      attribute_value x (term_value I r) ≡ option_map_or (term_value I) (last_given ps x) (BoolValue false)
   pub reached : ReachNoMore (r ∷ []) (map (λ p. p.1) ps)

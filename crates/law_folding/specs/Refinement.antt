@@ -30,7 +30,8 @@ pub record Refines (folded original : PlainTerm) : Type 0 where
   pub functions : AreAmong (reached_functions (folded ∷ [])) (reached_functions (original ∷ []))
   pub options : AreAmong (reached_options (folded ∷ [])) (reached_options (original ∷ []))
   pub selectors : AreAmong (reached_selectors (folded ∷ [])) (reached_selectors (original ∷ []))
-  pub value : (ty : PlainType) (enums : Enums) (I : Interpretation) → IsFormed original → Typed original ty → IsInterpretation enums (original ∷ []) I → term_value I folded ≡ term_value I original
+  pub value : (ty : PlainType) (enums : Enums) (I : Interpretation) → IsFormed original → Typed original ty →
+      IsInterpretation enums (original ∷ []) I → term_value I folded ≡ term_value I original
 
 -- fields of two records, name by name, whose terms stand for one another
 abbrev pub FieldsRefine : PlainFields → PlainFields → Type 0

@@ -1,8 +1,16 @@
 //! Laws of foldings and of what stands for what, proved with no code.
 ghost use Rattle.law_folding.specs.Built.{BuiltTermsRefine, FoldingAddsNoFault};
 ghost use Rattle.law_folding.specs.Congruence.{Congruence};
-ghost use Rattle.law_folding.specs.FoldRows.{ApartRows, BitsRows, ConnectiveRows, EqualityRows, ExtensionRows, FunctionRows, OptionRows, RecordRows, SetRows, StringRows};
-ghost use Rattle.law_folding.specs.Laws.{AnswersRefine, AnyIsTrue, BitsAreFolded, ConnectivesAreFolded, EqualityAndChoiceAreFolded, ExtensionsAreFolded, FunctionsAreFolded, InterpretationsPass, LiteralsAreEqualByValue, OptionsAreFolded, RecordsAreFolded, SetsAreFolded, RefinementIsKept, StringLikeIsFolded, TestsAreFolded, ValuesPass};
+ghost use Rattle.law_folding.specs.FoldRows.{ApartRows, BitsRows, ConnectiveRows, EqualityRows};
+ghost use Rattle.law_folding.specs.FoldRows.{ExtensionRows, FunctionRows, OptionRows};
+ghost use Rattle.law_folding.specs.FoldRows.{RecordRows, SetRows, StringRows};
+ghost use Rattle.law_folding.specs.Laws.{AnswersRefine, AnyIsTrue, BitsAreFolded};
+ghost use Rattle.law_folding.specs.Laws.{ConnectivesAreFolded, EqualityAndChoiceAreFolded};
+ghost use Rattle.law_folding.specs.Laws.{ExtensionsAreFolded, FunctionsAreFolded};
+ghost use Rattle.law_folding.specs.Laws.{InterpretationsPass, LiteralsAreEqualByValue};
+ghost use Rattle.law_folding.specs.Laws.{OptionsAreFolded, RecordsAreFolded, SetsAreFolded};
+ghost use Rattle.law_folding.specs.Laws.{RefinementIsKept, StringLikeIsFolded};
+ghost use Rattle.law_folding.specs.Laws.{TestsAreFolded, ValuesPass};
 
 /// A term stands for itself, onward, in applications, `some`, records and sets, and in the tests for none and for the
 /// empty set; and an interpretation of terms is one of the terms that stand for them, in which they have the same values.

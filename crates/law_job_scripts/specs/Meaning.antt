@@ -31,8 +31,12 @@ pub record AreWritable (enums : Enums) (steps : List PlainStep) : Type 0 where
 -- literals of its parts, and has no more commands than one and what each step asks for.
 pub record MeansSteps (enums : Enums) (steps : List PlainStep) : Type 0 where
   pub means : Headline enums (names_of_job enums (built_steps steps)) (map built (current steps)) (text_of_job enums (built_steps steps))
-  pub true_as_written : (I : Interpretation) → IsInterpretation enums (current steps) I → AreTrue I (current steps) ↔ IsModel (carry_interpretation enums (names_of_job enums (built_steps steps)) (restrict I (map built (current steps)))) means.state
-  pub well_written : IsWellWritten enums (text_of_job enums (built_steps steps)) (map built (current steps)) (names_of_job enums (built_steps steps)) (1 + most_for_steps (built_steps steps))
+  pub true_as_written : (I : Interpretation) → IsInterpretation enums (current steps) I →
+      AreTrue I (current steps)
+      ↔ IsModel (carry_interpretation enums (names_of_job enums (built_steps steps)) (restrict I (map built (current steps)))) means.state
+  pub well_written :
+      IsWellWritten enums (text_of_job enums (built_steps steps)) (map built (current steps)) (names_of_job enums (built_steps steps))
+      (1 + most_for_steps (built_steps steps))
 
 -- Writable steps mean this.
 abbrev pub WritableStepsMean : Type 0
@@ -41,6 +45,8 @@ WritableStepsMean = (enums : Enums) (steps : List PlainStep) → AreWritable enu
 -- The steps of a job whose built terms have no fault are writable, whether an expression states it or bytes, and so are those by which a
 -- solver is asked about it.
 pub record JobsAreWritable : Type 0 where
-  pub stated : (e : Expression) (section : Section) (job : PlainJob) → job_of e ≡ Ok (section, job) → fault_of job ≡ None → AreWritable job.enums job.steps
+  pub stated : (e : Expression) (section : Section) (job : PlainJob) → job_of e ≡ Ok (section, job) → fault_of job ≡ None →
+      AreWritable job.enums job.steps
   pub of_job : (bytes : List ℕ) (job : PlainJob) → IsJob bytes job → fault_of job ≡ None → AreWritable job.enums job.steps
-  pub checked : (bytes : List ℕ) (job : PlainJob) (section : Section) → IsJob bytes job → fault_of job ≡ None → AreWritable job.enums (checked_steps section job.steps)
+  pub checked : (bytes : List ℕ) (job : PlainJob) (section : Section) → IsJob bytes job → fault_of job ≡ None →
+      AreWritable job.enums (checked_steps section job.steps)

@@ -11,9 +11,9 @@ use Rattle.law_terms.proofs.Sorted.{all-sorted, ascends-sorted}
 use Rattle.law_texts.specs.Reading.{Expression, Expressions, Nil, Cons}
 use Rattle.law_jobs.specs.Outcomes.{FormFault}
 use Rattle.law_texts.specs.Outcomes.{demanded}
-use Rattle.law_jobs.specs.Parts.{inside_of, text_in}
+use Rattle.law_texts.specs.Parts.{first_apart, inside_of, text_in}
 use Rattle.law_jobs.specs.Declarations.{Declarations, declared, declared_by, unless_declared}
-use Rattle.law_jobs.specs.Enums.{enum_of, enum_written, enums_in, first_apart, new_enum, texts_in}
+use Rattle.law_jobs.specs.Enums.{enum_of, enum_written, enums_in, new_enum, texts_in}
 use Rattle.law_jobs.specs.Laws.{AreInOrder}
 use Rattle.law_jobs.proofs.Outcomes.{bound, if_demanded, if_followed, onward, whichever}
 use Rattle.law_jobs.proofs.FormedTypes.{AreFormed, all_formed}

@@ -18,9 +18,9 @@ use Rattle.law_terms.proofs.Sorted.{all-sorted, ascends-sorted}
 use Rattle.law_texts.specs.Reading.{Expression, Leaf, Node, Expressions, Nil, Cons}
 use Rattle.law_jobs.specs.Outcomes.{Outcome, FormFault, TypeFault, WidthFault}
 use Rattle.law_texts.specs.Outcomes.{demanded}
-use Rattle.law_jobs.specs.Parts.{name_in, number_in, pair_in, sole, sole_text, triple_in, width_in}
-use Rattle.law_jobs.specs.Types.{attributes_of, bits_type, entity_type, headed_type, named_types, new_attribute, record_type, sole_type, type_named, type_of_expression}
-use Rattle.law_jobs.specs.Declarations.{Declarations, Declared, declared, declared_by, function_of, functions_of, new_id, variable_of, variables_of}
+use Rattle.law_texts.specs.Parts.{name_in, number_in, pair_in, sole, sole_text, triple_in}
+use Rattle.law_jobs.specs.Types.{attributes_of, bits_type, entity_type, headed_type, named_types, new_attribute, record_type, sole_type, type_named, type_of_expression, width_in}
+use Rattle.law_jobs.specs.Declarations.{Declarations, Declared, declared, declared_by, declared_function, functions_of, new_id, declared_variable, variables_of}
 use Rattle.law_jobs.proofs.Outcomes.{bound, either, if_demanded, if_followed, if_some, onward, whichever}
 
 -- one that is found among entries that all have P
@@ -139,12 +139,12 @@ one_more : {A : Type 0} (P : A → Type 0) (ds : Declarations A) (d : List ℕ �
 one_more P [] d h p = (p, tt)
 one_more P (e ∷ ds) d h p = (h.0, one_more P ds d h.1 p)
 
-variable_formed : (vs : Declarations PlainType) (e : Expression) → IfOk (variable_of vs e) (λ d. IsFormedType d.1)
+variable_formed : (vs : Declarations PlainType) (e : Expression) → IfOk (declared_variable vs e) (λ d. IsFormedType d.1)
 variable_formed vs e =
     bound _ (demanded FormFault (pair_in e)) _ (whichever _ (demanded FormFault (pair_in e)) (λ p.
     bound _ (new_id vs p.0) _ (whichever _ (new_id vs p.0) (λ name. bound _ (type_of_expression p.1) _ (onward (type_of_expression p.1) (type_formed p.1) (λ t h. h))))))
 
-function_formed : (fs : Declarations PlainFunction) (e : Expression) → IfOk (function_of fs e) (λ d. IsFormedFunction d.1)
+function_formed : (fs : Declarations PlainFunction) (e : Expression) → IfOk (declared_function fs e) (λ d. IsFormedFunction d.1)
 function_formed fs e =
     bound _ (demanded FormFault (triple_in e)) _ (whichever _ (demanded FormFault (triple_in e)) (λ p.
     bound _ (new_id fs p.0) _ (whichever _ (new_id fs p.0) (λ name.
@@ -161,10 +161,10 @@ pub record AreDeclaredFormed (ds : Declared) : Type 0 where
   pub functions : AreFormed IsFormedFunction ds.functions
 
 pub variables_formed : (es : Expressions) → IfOk (variables_of es) (AreFormed IsFormedType)
-variables_formed es = all_formed IsFormedType variable_of variable_formed [] es tt
+variables_formed es = all_formed IsFormedType declared_variable variable_formed [] es tt
 
 pub functions_formed : (es : Expressions) → IfOk (functions_of es) (AreFormed IsFormedFunction)
-functions_formed es = all_formed IsFormedFunction function_of function_formed [] es tt
+functions_formed es = all_formed IsFormedFunction declared_function function_formed [] es tt
 
 pub declared_formed : {A : Type 0} (P : A → Type 0) (ds : Declarations A) (id : List ℕ) → AreFormed P ds → IfSome (declared ds id) P
 declared_formed P ds id h = found_among P (bytes_eq id) ds h

@@ -41,8 +41,8 @@ use Rattle.law_texts.specs.Lexicon.{Atom, Bits, Name, Number, Text}
 use Rattle.law_texts.specs.Reading.{Expression, Leaf, Node, Expressions, Nil, Cons}
 use Rattle.law_jobs.specs.Outcomes.{Outcome, FormFault, LiteralFault, TypingFault, UnknownFault, WidthFault}
 use Rattle.law_texts.specs.Outcomes.{◌>>=◌, demanded}
-use Rattle.law_jobs.specs.Parts.{both, first_in, name_in, number_in, sole, sole_text, text_in, width_in}
-use Rattle.law_jobs.specs.Types.{record_type, type_of_expression}
+use Rattle.law_texts.specs.Parts.{both, first_in, name_in, number_in, sole, sole_text, text_in}
+use Rattle.law_jobs.specs.Types.{record_type, type_of_expression, width_in}
 use Rattle.law_jobs.specs.Declarations.{Declared, declared}
 use Rattle.law_jobs.specs.Terms.{TermForm, Whole, Operator, OperatorBehind, Present, Elements, Fields, applied, are_of_type, atom_term, bits_form, bits_literal, datetime_literal, decimal_literal, duration_literal, entity_form, extension_by, extension_form, extension_named, extension_operators, field_names, form_of, function_form, like_form, literal_form, long_in, long_literal, made, named_operators, new_names, none_form, operator_form, operator_named, other_named, other_terms, parts_of, pattern_in, range_literal, record_form, second_terms, selection_form, set_form, some_form, term_of, terms_of, truth_named, variable_form, whole_literal}
 use Rattle.law_jobs.proofs.Outcomes.{bound, either, if_demanded, if_followed, if_some, onward, whichever}

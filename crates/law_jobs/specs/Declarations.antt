@@ -6,7 +6,7 @@ use Rattle.law_terms.specs.TypeValues.{Enums}
 use Rattle.law_texts.specs.Reading.{Expression, Expressions, Nil, Cons}
 use Rattle.law_jobs.specs.Outcomes.{Outcome, DuplicateFault, FormFault}
 use Rattle.law_texts.specs.Outcomes.{◌>>=◌, demanded}
-use Rattle.law_jobs.specs.Parts.{pair_in, text_in, triple_in}
+use Rattle.law_texts.specs.Parts.{pair_in, text_in, triple_in}
 use Rattle.law_jobs.specs.Types.{type_of_expression}
 
 -- ids, each with what it is declared as, in the order of the declarations
@@ -27,27 +27,28 @@ abbrev pub new_id : {A : Type 0} → Declarations A → Expression → Outcome (
 new_id ds e = demanded FormFault (text_in e) >>= λ id. unless_declared (declared ds id) id
 
 -- the variable that `("id" TYPE)` declares, behind those that are there
-abbrev pub variable_of : Declarations PlainType → Expression → Outcome (List ℕ × PlainType)
-variable_of vs e = demanded FormFault (pair_in e) >>= λ p. new_id vs p.0 >>= λ name. type_of_expression p.1 >>= λ t. Ok (name, t)
+abbrev pub declared_variable : Declarations PlainType → Expression → Outcome (List ℕ × PlainType)
+declared_variable vs e = demanded FormFault (pair_in e) >>= λ p. new_id vs p.0 >>= λ name. type_of_expression p.1 >>= λ t. Ok (name, t)
 
 -- the uninterpreted function that `("id" TYPE TYPE)` declares: the types of its argument and of its result
-abbrev pub function_of : Declarations PlainFunction → Expression → Outcome (List ℕ × PlainFunction)
-function_of fs e =
+abbrev pub declared_function : Declarations PlainFunction → Expression → Outcome (List ℕ × PlainFunction)
+declared_function fs e =
     demanded FormFault (triple_in e) >>= λ p. new_id fs p.0 >>= λ name. type_of_expression p.1 >>= λ t. type_of_expression p.2 >>= λ u.
     Ok (name, record { id = name; argument = t; output = u })
 
 -- declarations behind those that are there
-abbrev pub declared_by : {A : Type 0} → (Declarations A → Expression → Outcome (List ℕ × A)) → Declarations A → Expressions → Outcome (Declarations A)
+abbrev pub declared_by : {A : Type 0} → (Declarations A → Expression → Outcome (List ℕ × A)) → Declarations A → Expressions →
+    Outcome (Declarations A)
 declared_by of ds Nil = Ok ds
 declared_by of ds (Cons e es) = of ds e >>= λ d. declared_by of (ds ++ d ∷ []) es
 
 -- the variables of a job's section `(vars ("id" TYPE) ..)`, in the order of the job, no id twice
 abbrev pub variables_of : Expressions → Outcome (Declarations PlainType)
-variables_of es = declared_by variable_of [] es
+variables_of es = declared_by declared_variable [] es
 
 -- the functions of a job's section `(funs ("id" TYPE TYPE) ..)`, in the order of the job, no id twice
 abbrev pub functions_of : Expressions → Outcome (Declarations PlainFunction)
-functions_of es = declared_by function_of [] es
+functions_of es = declared_by declared_function [] es
 
 -- what a job declares: its enum types, and the variables and functions that its terms may name
 pub record Declared : Type 0 where

@@ -1,12 +1,12 @@
 -- The enum types that jobs state: `("Type" "member" ..)`, the type's name and then any number of members.
-use Rattle.std.specs.Prelude.{ℕ, List, [], Option, Some, None, Ok}
+use Rattle.std.specs.Prelude.{ℕ, List, [], Ok}
 use Rattle.std.specs.Option.{option_and_then}
 use Rattle.law_terms.specs.TypeValues.{Enums}
 use Rattle.law_terms.specs.ValueOrder.{sorted, text_cmp}
 use Rattle.law_texts.specs.Reading.{Expression, Expressions, Nil, Cons}
 use Rattle.law_jobs.specs.Outcomes.{Outcome, followed, FormFault}
 use Rattle.law_texts.specs.Outcomes.{◌>>=◌, demanded}
-use Rattle.law_jobs.specs.Parts.{inside_of, text_in}
+use Rattle.law_texts.specs.Parts.{first_apart, inside_of, text_in}
 use Rattle.law_jobs.specs.Declarations.{Declarations, declared, declared_by, unless_declared}
 
 -- the texts that strings state, in order, if each expression is such a string
@@ -14,15 +14,11 @@ abbrev pub texts_in : Expressions → Outcome (List (List ℕ))
 texts_in Nil = Ok []
 texts_in (Cons e es) = demanded FormFault (text_in e) >>= λ text. followed text (texts_in es)
 
--- the first expression of a list, and those behind it
-abbrev pub first_apart : Expressions → Option (Expression × Expressions)
-first_apart Nil = None
-first_apart (Cons e es) = Some (e, es)
-
 -- the name of an enum type and its members, as they are written: in any order, and a member may stand twice
 abbrev pub enum_written : Expression → Outcome (List ℕ × List (List ℕ))
 enum_written e =
-    demanded FormFault (option_and_then first_apart (inside_of e)) >>= λ p. demanded FormFault (text_in p.0) >>= λ name. texts_in p.1 >>= λ members. Ok (name, members)
+    demanded FormFault (option_and_then first_apart (inside_of e)) >>=
+    λ p. demanded FormFault (text_in p.0) >>= λ name. texts_in p.1 >>= λ members. Ok (name, members)
 
 -- an enum type that is not declared yet, with its members in the order of their bytes, each once
 abbrev pub new_enum : Declarations (List (List ℕ)) → List ℕ × List (List ℕ) → Outcome (List ℕ × List (List ℕ))

@@ -12,7 +12,7 @@ use Rattle.law_texts.specs.Reading.{Expression, Expressions, Nil, Cons}
 use Rattle.law_texts.specs.Tokens.{IsReadWithin}
 use Rattle.law_jobs.specs.Outcomes.{JobFault, Outcome, FormFault}
 use Rattle.law_texts.specs.Outcomes.{◌>>=◌, demanded}
-use Rattle.law_jobs.specs.Parts.{section}
+use Rattle.law_texts.specs.Parts.{section}
 use Rattle.law_jobs.specs.Declarations.{Declarations, Declared, functions_of, variables_of}
 use Rattle.law_jobs.specs.Enums.{enums_in}
 use Rattle.law_jobs.specs.Steps.{PlainStep, Section, asserted, built_steps, headed, nothing_more, section_named}
@@ -23,6 +23,10 @@ pub record PlainJob : Type 0 where
   pub variables : Declarations PlainType
   pub functions : Declarations PlainFunction
   pub steps : List PlainStep
+
+-- what a job declares, for the terms that name it
+abbrev pub declarations_of : PlainJob → Declared
+declarations_of job = record { enums = job.enums; variables = job.variables; functions = job.functions }
 
 -- what stands behind a head in brackets, or the fault that it is no such section
 abbrev pub section_of : List ℕ → Expression → Outcome Expressions
@@ -46,7 +50,10 @@ steps_last ds Nil = Err FormFault
 
 -- the job of four sections: enum types, variables, functions and then terms or steps, in this order and each of them there
 abbrev pub job_of_sections : Expressions → Outcome (Section × PlainJob)
-job_of_sections es = declared_first es >>= λ p. steps_last p.0 p.1 >>= λ x. Ok (x.0, record { enums = p.0.enums; variables = p.0.variables; functions = p.0.functions; steps = x.1 })
+job_of_sections es =
+    declared_first es >>=
+    λ p.
+    steps_last p.0 p.1 >>= λ x. Ok (x.0, record { enums = p.0.enums; variables = p.0.variables; functions = p.0.functions; steps = x.1 })
 
 -- the job that an expression states, `(job ..)`, and by which section it gives its steps, or its first fault
 abbrev pub job_of : Expression → Outcome (Section × PlainJob)

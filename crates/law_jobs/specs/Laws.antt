@@ -21,7 +21,8 @@ pub record IsCondition (t : PlainTerm) : Type 0 where
 -- Each term that a job asserts is typed with the type Bool, and formed: it is a condition. So is each that is current anywhere in it.
 pub record JobsHaveConditions : Type 0 where
   pub asserted : (bytes : List ℕ) (job : PlainJob) → IsJob bytes job → AllByRecursion IsCondition (asserted job.steps)
-  pub current : (bytes : List ℕ) (job : PlainJob) (before behind : List PlainStep) → IsJob bytes job → job.steps ≡ before ++ behind → AllByRecursion IsCondition (current before)
+  pub current : (bytes : List ℕ) (job : PlainJob) (before behind : List PlainStep) → IsJob bytes job → job.steps ≡ before ++ behind →
+      AllByRecursion IsCondition (current before)
 
 -- No step of a job closes a level where none is open.
 abbrev pub JobsAreBalanced : Type 0

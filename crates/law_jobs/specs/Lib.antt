@@ -3,7 +3,6 @@ pub mod Enums
 pub mod Jobs
 pub mod Laws
 pub mod Outcomes
-pub mod Parts
 pub mod Steps
 pub mod Terms
 pub mod Types

@@ -2,7 +2,8 @@
 -- `(entity "T" "id")`, `(decimal "1.5")`, `(ip "10.0.0.0/8")`, `(datetime "2024-10-15")`, `(duration "1d2h")`, `(none TYPE)`,
 -- `(some t)`, `(set TYPE t ..)`, `(record ("a" t) ..)`, `(zero_extend N t)`, `(record.get "a" t)`, `(string.like (P ..) t)`, each P a
 -- string or `*`, `(uuf "f" t)`, and `(name t ..)` of another operator.
-use Rattle.std.specs.Prelude.{ℕ, ◌==◌, Bool, true, false, not, ◌&&◌, nat_le, ℤ, bytes_eq, codes, decimal, if◌then◌else◌, map, List, [], ◌∷◌, ◌++◌, Option, Some, None, Ok, Err, option_map}
+use Rattle.std.specs.Prelude.{ℕ, ◌==◌, Bool, true, false, not, ◌&&◌, nat_le, ℤ, bytes_eq, codes, decimal, if◌then◌else◌, map, List, [], ◌∷◌}
+use Rattle.std.specs.Prelude.{◌++◌, Option, Some, None, Ok, Err, option_map}
 use Rattle.std.specs.Bool.{then_some}
 use Rattle.std.specs.List.{list_all, zip}
 use Rattle.std.specs.Map.{lookup}
@@ -19,22 +20,29 @@ use Rattle.law_extensions.specs.DurationTexts.{duration_in}
 use Rattle.law_extensions.specs.RangeTexts.{range_in}
 use Rattle.law_folding.specs.FoldRecords.{record_of_pairs}
 use Rattle.law_terms.specs.Names.{extension_op_name, op_name}
-use Rattle.law_terms.specs.Plain.{PlainType, BoolType, ExtensionOp, DatetimeOfBitVecOp, DatetimeValOp, DecimalValOp, DurationOfBitVecOp, DurationValOp, IpAddrV4Op, IpAddrV6Op, IpIsV4Op, IpPrefixV4Op, IpPrefixV6Op, PatternPart, Character, Wildcard, PlainOp, AndOp, BvnegOp, BvnegoOp, EqOp, ExtOp, IteOp, NotOp, OptionGetOp, OrOp, RecordGetOp, SetInterOp, SetMemberOp, SetSubsetOp, StringLikeOp, UufOp, ZeroExtendOp, DatetimeOf, DecimalOf, DurationOf, PlainLiteral, BitVecLiteral, BoolLiteral, EntityLiteral, ExtensionLiteral, StringLiteral, PlainTerm, Application, LiteralTerm, NoneTerm, SomeTerm, VariableTerm, terms, BitsOp, TestOp, OverflowOp}
+use Rattle.law_terms.specs.Plain.{PlainType, BoolType, ExtensionOp, DatetimeOfBitVecOp, DatetimeValOp, DecimalValOp, DurationOfBitVecOp}
+use Rattle.law_terms.specs.Plain.{DurationValOp, IpAddrV4Op, IpAddrV6Op, IpIsV4Op, IpPrefixV4Op, IpPrefixV6Op, PatternPart, Character}
+use Rattle.law_terms.specs.Plain.{Wildcard, PlainOp, AndOp, BvnegOp, BvnegoOp, EqOp, ExtOp, IteOp, NotOp, OptionGetOp, OrOp, RecordGetOp}
+use Rattle.law_terms.specs.Plain.{SetInterOp, SetMemberOp, SetSubsetOp, StringLikeOp, UufOp, ZeroExtendOp, DatetimeOf, DecimalOf}
+use Rattle.law_terms.specs.Plain.{DurationOf, PlainLiteral, BitVecLiteral, BoolLiteral, EntityLiteral, ExtensionLiteral, StringLiteral}
+use Rattle.law_terms.specs.Plain.{PlainTerm, Application, LiteralTerm, NoneTerm, SomeTerm, VariableTerm, terms, BitsOp, TestOp, OverflowOp}
 use Rattle.law_terms.specs.TermSets.{set_term}
 use Rattle.law_terms.specs.Types.{result_type, type_eq, type_of}
 use Rattle.law_texts.specs.Lexicon.{Atom, Bits, Name, Number, Text}
 use Rattle.law_texts.specs.Reading.{Expression, Leaf, Node, Expressions, Nil, Cons}
 use Rattle.law_jobs.specs.Outcomes.{Outcome, followed, FormFault, LiteralFault, TruthFault, TypingFault, UnknownFault, WidthFault}
 use Rattle.law_texts.specs.Outcomes.{◌>>=◌, demanded}
-use Rattle.law_jobs.specs.Parts.{both, first_in, inside_of, name_in, number_in, pair_in, sole, sole_text, text_in, width_in}
-use Rattle.law_jobs.specs.Types.{new_name, type_of_expression}
+use Rattle.law_texts.specs.Parts.{both, first_in, inside_of, name_in, number_in, pair_in, sole, sole_text, text_in}
+use Rattle.law_jobs.specs.Types.{new_name, type_of_expression, width_in}
 use Rattle.law_jobs.specs.Declarations.{Declared, declared}
 
 -- ---- literals
 
 -- the literals `true` and `false`
 abbrev pub truth_named : List ℕ → Option PlainTerm
-truth_named n = if bytes_eq n (codes "true") then Some (LiteralTerm (BoolLiteral true)) else then_some (bytes_eq n (codes "false")) (LiteralTerm (BoolLiteral false))
+truth_named n =
+    if bytes_eq n (codes "true") then Some (LiteralTerm (BoolLiteral true))
+    else then_some (bytes_eq n (codes "false")) (LiteralTerm (BoolLiteral false))
 
 -- a bitvector literal by its width and number: the width is from 1 to 128, and the number below 2 to the width
 abbrev pub bits_literal : (width number : ℕ) → Option PlainTerm
@@ -51,7 +59,8 @@ atom_term (Number n) = Err FormFault
 -- a whole number of 64 bits with sign, by whether a minus stands in front and by the digits
 abbrev pub long_of : (negative : Bool) → (digits : List ℕ) → Option ℤ
 long_of negative digits =
-    then_some (is_numeral digits && not (overflows 64 (signed_number negative (decimal_number digits)))) (signed_number negative (decimal_number digits))
+    then_some (is_numeral digits && not (overflows 64 (signed_number negative (decimal_number digits))))
+    (signed_number negative (decimal_number digits))
 
 -- the whole number that a text is: a minus where it is negative, digits, and no plus; from -2 to the 63 to 2 to the 63 less 1
 abbrev pub long_in : List ℕ → Option ℤ
@@ -104,7 +113,8 @@ pattern_in e = option_and_then pattern_parts (inside_of e)
 -- the ten operators on values of extension types that jobs call
 abbrev pub extension_operators : List ExtensionOp
 extension_operators =
-    DatetimeOfBitVecOp ∷ DatetimeValOp ∷ DecimalValOp ∷ DurationOfBitVecOp ∷ DurationValOp ∷ IpAddrV4Op ∷ IpAddrV6Op ∷ IpIsV4Op ∷ IpPrefixV4Op ∷ IpPrefixV6Op ∷ []
+    DatetimeOfBitVecOp ∷ DatetimeValOp ∷ DecimalValOp ∷ DurationOfBitVecOp ∷ DurationValOp ∷ IpAddrV4Op ∷ IpAddrV6Op ∷ IpIsV4Op
+    ∷ IpPrefixV4Op ∷ IpPrefixV6Op ∷ []
 
 -- the operator on extension values that a name calls, if it calls one
 abbrev pub extension_named : List ℕ → Option PlainOp
@@ -162,15 +172,23 @@ literal_form read es = demanded FormFault (sole_text es) >>= λ text. demanded (
 
 -- a variable of the job: `(var "id")`, of the type that the job declares
 abbrev pub variable_form : Declared → Expressions → Outcome TermForm
-variable_form ds es = demanded FormFault (sole_text es) >>= λ id. demanded (UnknownFault id) (declared ds.variables id) >>= λ t. Ok (Whole (VariableTerm id t))
+variable_form ds es =
+    demanded FormFault (sole_text es) >>=
+    λ id. demanded (UnknownFault id) (declared ds.variables id) >>= λ t. Ok (Whole (VariableTerm id t))
 
 -- a bitvector literal by its width and its number: `(bv W N)`
 abbrev pub bits_form : Expressions → Outcome TermForm
-bits_form es = demanded FormFault (both es) >>= λ p. demanded FormFault (number_in p.1) >>= λ n. demanded WidthFault (width_in p.0) >>= λ w. demanded (LiteralFault (decimal n)) (option_map Whole (bits_literal w n))
+bits_form es =
+    demanded FormFault (both es) >>=
+    λ p.
+    demanded FormFault (number_in p.1) >>=
+    λ n. demanded WidthFault (width_in p.0) >>= λ w. demanded (LiteralFault (decimal n)) (option_map Whole (bits_literal w n))
 
 -- the entity of a type and of an id: `(entity "T" "id")`
 abbrev pub entity_form : Expressions → Outcome TermForm
-entity_form es = demanded FormFault (both es) >>= λ p. demanded FormFault (text_in p.0) >>= λ type. demanded FormFault (text_in p.1) >>= λ id. Ok (whole_literal (EntityLiteral type id))
+entity_form es =
+    demanded FormFault (both es) >>=
+    λ p. demanded FormFault (text_in p.0) >>= λ type. demanded FormFault (text_in p.1) >>= λ id. Ok (whole_literal (EntityLiteral type id))
 
 -- the none of an inner type: `(none TYPE)`
 abbrev pub none_form : Expressions → Outcome TermForm
@@ -204,7 +222,8 @@ record_form es = field_names es >>= new_names [] >>= λ names. Ok (Fields names)
 
 -- zero extension by so many bits: `(zero_extend N t)`
 abbrev pub extension_form : Expressions → Outcome TermForm
-extension_form es = demanded FormFault (both es) >>= λ p. demanded WidthFault (option_and_then extension_by (number_in p.0)) >>= λ o. Ok (OperatorBehind o)
+extension_form es =
+    demanded FormFault (both es) >>= λ p. demanded WidthFault (option_and_then extension_by (number_in p.0)) >>= λ o. Ok (OperatorBehind o)
 
 -- the value of a record's attribute: `(record.get "a" t)`
 abbrev pub selection_form : Expressions → Outcome TermForm
@@ -212,12 +231,16 @@ selection_form es = demanded FormFault (both es) >>= λ p. demanded FormFault (t
 
 -- whether a string matches a pattern: `(string.like (P ..) t)`
 abbrev pub like_form : Expressions → Outcome TermForm
-like_form es = demanded FormFault (both es) >>= λ p. demanded FormFault (pattern_in p.0) >>= λ parts. Ok (OperatorBehind (StringLikeOp parts))
+like_form es =
+    demanded FormFault (both es) >>= λ p. demanded FormFault (pattern_in p.0) >>= λ parts. Ok (OperatorBehind (StringLikeOp parts))
 
 -- an uninterpreted function of the job at a term: `(uuf "f" t)`
 abbrev pub function_form : Declared → Expressions → Outcome TermForm
 function_form ds es =
-    demanded FormFault (both es) >>= λ p. demanded FormFault (text_in p.0) >>= λ id. demanded (UnknownFault id) (declared ds.functions id) >>= λ f. Ok (OperatorBehind (UufOp f))
+    demanded FormFault (both es) >>=
+    λ p.
+    demanded FormFault (text_in p.0) >>=
+    λ id. demanded (UnknownFault id) (declared ds.functions id) >>= λ f. Ok (OperatorBehind (UufOp f))
 
 -- an operator that has nothing but its arguments: `(name t ..)`
 abbrev pub operator_form : List ℕ → Outcome TermForm
@@ -279,7 +302,8 @@ module _ (ds : Declared) where
     term_of (Leaf a) = atom_term a
     term_of (Node Nil) = Err FormFault
     term_of (Node (Cons head es)) =
-        demanded FormFault (name_in head) >>= λ n. form_of ds n es >>= λ form. parts_of form (terms_of es) (other_terms es) (second_terms es) >>= made form
+        demanded FormFault (name_in head) >>=
+        λ n. form_of ds n es >>= λ form. parts_of form (terms_of es) (other_terms es) (second_terms es) >>= made form
 
     -- the terms that expressions state, in order
     pub terms_of : Expressions → Outcome (List PlainTerm)

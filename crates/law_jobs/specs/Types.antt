@@ -1,25 +1,33 @@
 -- The types that jobs state: `Bool`, `String`, `Decimal`, `IpAddr`, `Datetime`, `Duration`, `(BitVec N)` with N from 1 to 128,
 -- `(Option TYPE)`, `(Set TYPE)`, `(Entity "T")`, and `(Record ("a" TYPE) ..)`.
 use Rattle.std.specs.Prelude.{ℕ, bytes_eq, codes, if◌then◌else◌, List, [], ◌∷◌, ◌++◌, Option, Ok, Err}
+use Rattle.std.specs.Bool.{then_some}
 use Rattle.std.specs.List.{list_any}
 use Rattle.std.specs.Map.{lookup}
 use Rattle.std.specs.Option.{option_and_then}
-use Rattle.law_terms.specs.Plain.{IpAddrKind, DecimalKind, DatetimeKind, DurationKind, PlainType, OptionType, BitVecType, BoolType, EntityType, ExtensionType, StringType, RecordType, SetType, attribute_types}
+use Rattle.law_numbers.specs.Widths.{is_width}
+use Rattle.law_terms.specs.Plain.{IpAddrKind, DecimalKind, DatetimeKind, DurationKind, PlainType, OptionType, BitVecType, BoolType}
+use Rattle.law_terms.specs.Plain.{EntityType, ExtensionType, StringType, RecordType, SetType, attribute_types}
 use Rattle.law_terms.specs.ValueOrder.{sorted, text_cmp}
 use Rattle.law_texts.specs.Reading.{Expression, Leaf, Node, Expressions, Nil, Cons}
 use Rattle.law_jobs.specs.Outcomes.{Outcome, followed, DuplicateFault, TypeFault, WidthFault}
 use Rattle.law_texts.specs.Outcomes.{◌>>=◌, demanded}
-use Rattle.law_jobs.specs.Parts.{name_in, sole, sole_text, text_in, width_in}
+use Rattle.law_texts.specs.Parts.{name_in, number_in, sole, sole_text, text_in}
 
 -- the types that a symbol alone names
 abbrev pub named_types : List (List ℕ × PlainType)
 named_types =
-    (codes "Bool", BoolType) ∷ (codes "String", StringType) ∷ (codes "Decimal", ExtensionType DecimalKind) ∷ (codes "IpAddr", ExtensionType IpAddrKind)
+    (codes "Bool", BoolType) ∷ (codes "String", StringType) ∷ (codes "Decimal", ExtensionType DecimalKind)
+    ∷ (codes "IpAddr", ExtensionType IpAddrKind)
     ∷ (codes "Datetime", ExtensionType DatetimeKind) ∷ (codes "Duration", ExtensionType DurationKind) ∷ []
 
 -- the type that a symbol names, if it names one
 abbrev pub type_named : List ℕ → Option PlainType
 type_named n = lookup (bytes_eq n) named_types
+
+-- a width from 1 to 128, which is a numeral
+abbrev pub width_in : Expression → Option ℕ
+width_in e = option_and_then (λ n. then_some (is_width n) n) (number_in e)
 
 -- the type of bitvectors of so many bits, from 1 to 128: `(BitVec N)`
 abbrev pub bits_type : Expressions → Outcome PlainType
@@ -47,7 +55,8 @@ stated_record_type ps = ps >>= λ pairs. Ok (record_type pairs)
 
 -- A type by its head, by what stands behind the head, and by the type and the attributes that this would state: which of these
 -- counts, the head says. The heads are `BitVec`, `Option`, `Set`, `Entity` and `Record`.
-abbrev pub headed_type : (head : List ℕ) → Expressions → (inner : Outcome PlainType) → (attributes : Outcome (List (List ℕ × PlainType))) → Outcome PlainType
+abbrev pub headed_type : (head : List ℕ) → Expressions → (inner : Outcome PlainType) → (attributes : Outcome (List (List ℕ × PlainType))) →
+    Outcome PlainType
 headed_type head es inner attributes =
     if bytes_eq head (codes "BitVec") then bits_type es
     else (if bytes_eq head (codes "Option") then (inner >>= λ t. Ok (OptionType t))
@@ -61,7 +70,8 @@ abbrev mutual
   pub type_of_expression : Expression → Outcome PlainType
   type_of_expression (Leaf a) = demanded TypeFault (option_and_then type_named (name_in (Leaf a)))
   type_of_expression (Node Nil) = Err TypeFault
-  type_of_expression (Node (Cons head es)) = demanded TypeFault (name_in head) >>= λ n. headed_type n es (sole_type es) (attributes_of [] es)
+  type_of_expression (Node (Cons head es)) =
+      demanded TypeFault (name_in head) >>= λ n. headed_type n es (sole_type es) (attributes_of [] es)
 
   -- the type that the one expression of a list states
   pub sole_type : Expressions → Outcome PlainType

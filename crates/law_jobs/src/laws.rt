@@ -1,5 +1,7 @@
 // The laws of jobs and of the names of operators in them.
-ghost use Rattle.law_jobs.specs.Laws.{JobsAreBalanced, JobsAreNotRefused, JobsHaveConditions, JobsHaveEnumsInOrder, OperatorsAreFoundByName, StepsAreBuilt};
+ghost use Rattle.law_jobs.specs.Laws.{JobsAreBalanced, JobsAreNotRefused, JobsHaveConditions};
+ghost use Rattle.law_jobs.specs.Laws.{JobsHaveEnumsInOrder};
+ghost use Rattle.law_jobs.specs.Laws.{OperatorsAreFoundByName, StepsAreBuilt};
 
 /// Each term that a job asserts is typed as a Boolean, and formed, and so is each that is current anywhere in it.
 pub fn jobs_have_conditions()

@@ -2,7 +2,7 @@
 use Rattle.std.proofs.Common.{◌≡◌, ℕ, suc, Bool, true, false, not, ◌&&◌, ◌||◌, List, [], ◌∷◌, ◌++◌, map, refl, sym, ap, ◌∙◌, subst, inl, inr, arith}
 use Rattle.std.specs.Prelude.{codes, bytes_eq, ◌==◌}
 use Rattle.std.specs.List.{list_all}
-use Rattle.std.proofs.lemmas.Bool.{and_parts, and_from, or_from, cases_Bool, false≢true}
+use Rattle.std.proofs.lemmas.Bool.{and_parts, and_from, or_from, cases_Bool, false≢true, not-true}
 use Rattle.std.proofs.lemmas.List.{append-nil, length-append}
 use Rattle.std.proofs.lemmas.List.Folds.{list_all-append, list_any-append}
 use Rattle.std.proofs.lemmas.Slice.Eq.{bytes_eq-Decides}
@@ -25,7 +25,7 @@ use Rattle.law_lines.specs.Entries.{TypePartsHaveEntries, type_lines}
 use Rattle.law_lines.specs.NameTables.{Tables}
 use Rattle.law_lines.proofs.Grow.{lookup_append}
 use Rattle.law_lines.specs.Command.{all_built, is_written_constructor}
-use Rattle.law_lines.specs.Fit.{IsKindNamed, EachLine, LineIsDeclared, Fit, Steps, declares, declares_sort, names_of_type, is_old_name_in, is_old_sort_in, is_name_of_entry, is_sort_of_entry}
+use Rattle.law_lines.specs.Fit.{IsKindNamed, EachLine, LineIsDeclared, Fit, AreObeyable, declares, declares_sort, names_of_type, is_old_name_in, is_old_sort_in, is_name_of_entry, is_sort_of_entry}
 use Rattle.law_lines.proofs.Known.{one_passes}
 use Rattle.law_lines.proofs.OnlyEntries.{as_is, name_stays, sort_stays_so, names_are_entrys, sort_is_entrys}
 use Rattle.law_lines.proofs.Enter.{More, fit_grows, all_grow, old_stays, old_sort_stays, fresh_from}
@@ -117,10 +117,6 @@ pub record IsNew (enums : Enums) (s : Tables) (t : PlainType) (d : List ℕ) : T
   pub distinct : are_distinct (names_of_type enums t d) ≡ true
   pub kind : IsKindNamed t d
 
-no : (b : Bool) → not b ≡ true → b ≡ false
-no true h = absurd (false≢true h)
-no false h = refl
-
 all_new : (enums : Enums) (s : Tables) (state : State) → Fit enums s state → (ns : List (List ℕ)) → list_all is_free ns ≡ true → list_all (λ n. not (is_old_name_in s n)) ns ≡ true → are_distinct ns ≡ true → are_new state ns ≡ true
 all_new enums s state fit [] f n d = refl
 all_new enums s state fit (x ∷ xs) f n d =
@@ -129,7 +125,7 @@ all_new enums s state fit (x ∷ xs) f n d =
     let c = and_parts (not (is_in x xs)) (are_distinct xs) d in
     let e = and_parts (not (is_in x built_in_names)) (not (is_reserved x)) a.0 in
     and_from (not (is_taken state x)) (not (is_in x xs) && are_new state xs)
-    (ap not (fresh_from enums s state fit x (no (is_old_name_in s x) b.0) (no (is_in x built_in_names) e.0) (no (is_reserved x) e.1)))
+    (ap not (fresh_from enums s state fit x (not-true (is_old_name_in s x) b.0) (not-true (is_in x built_in_names) e.0) (not-true (is_reserved x) e.1)))
     (and_from (not (is_in x xs)) (are_new state xs) c.0 (all_new enums s state fit xs a.1 b.1 c.1))
 
 -- sorts that are there are old
@@ -220,7 +216,7 @@ type_fits enums s state fit t d new cs e news parts own =
 pub type_line : (enums : Enums) (s : Tables) (t : PlainType) (d : List ℕ) → IsNew enums s t d → (cs : List line.Constructor) → names_in (all_built cs) ≡ names_of_type enums t d → has_constructor (all_built cs) ≡ true
     → ((state : State) → Fit enums s state → (list_all (λ c. are_fields state [] c.selectors) (all_built cs) ≡ true) × (list_all is_written_constructor cs ≡ true))
     → TypePartsHaveEntries s t → ((P : Line → Type 0) → ((text : List ℕ) → P (Comment text)) → P (DeclareDatatype d [] cs) → EachLine P (type_lines enums s t d))
-    → Steps enums s (DeclareDatatype d [] cs ∷ []) (with_type t d s)
+    → AreObeyable enums s (DeclareDatatype d [] cs ∷ []) (with_type t d s)
 type_line enums s t d new cs e some good parts own state fit =
     let g = good state fit in
     let after = with_datatype d (all_built cs) state in

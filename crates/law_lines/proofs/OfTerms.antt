@@ -23,7 +23,7 @@ use Rattle.law_lines.proofs.Grow.{terms_grow, term_grows, fields_grow, head_grow
 use Rattle.law_lines.proofs.Making.{terms_are_made, functions_are_made}
 use Rattle.law_lines.proofs.Stays.{texts_stay}
 use Rattle.law_lines.specs.Encodable.{HasMember, HasArgument, IsEncodableType, IsEncodableOp, IsLeast, IsEncodableId, IsEncodableLiteral, IsEncodable, AreEncodable, AreEncodableFields}
-use Rattle.law_lines.specs.Fit.{HasRecord, EachLine, LineIsDeclared, Fit, Steps, StepsOf, declares, names_of_type}
+use Rattle.law_lines.specs.Fit.{HasRecord, EachLine, LineIsDeclared, Fit, AreObeyable, IsObeyable, declares, names_of_type}
 use Rattle.law_lines.proofs.Known.{GoodSort, GoodText, GoodTexts, TextsAre, text_good, texts_good, applied_good}
 use Rattle.law_lines.proofs.Kept.{itself_kept}
 use Rattle.law_lines.proofs.Enter.{keeps_then}
@@ -101,7 +101,7 @@ least_function (UufOp f) ts type width w e = absurd cc
 least_function op ts type width w e = tt
 
 member_stands : (enums : Enums) (s : Tables) (type id : List ℕ) (members : List (List ℕ)) → members_of enums type ≡ Some members → nat_lt (place_of id members) (length members) ≡ true → IsSome (name_of_type s (EntityType type))
-    → Steps enums s [] (record s { terms = s.terms ++ (LiteralTerm (EntityLiteral type id), enum_member members (text_of_name (name_of_type s (EntityType type))) id) ∷ [] })
+    → AreObeyable enums s [] (record s { terms = s.terms ++ (LiteralTerm (EntityLiteral type id), enum_member members (text_of_name (name_of_type s (EntityType type))) id) ∷ [] })
 member_stands enums s type id members e l h state fit =
     let n = text_of_name (name_of_type s (EntityType type)) in
     let i = place_of id members in
@@ -138,7 +138,7 @@ entity_good enums s type id e h f state fit =
     let g : GoodTexts state es = (refl, rw f refl) in
     ((y.sort, y.name), applied_good enums s state fit n (Leaf (Text (chars id))) [] (and_parts (declares state n) _ d).0 y.name g, h)
 
-entity_steps : (enums : Enums) (o : Option (List (List ℕ))) (type id : List ℕ) (s : Tables) → members_of enums type ≡ o → IsEncodableId o id → IsSome (name_of_type s (EntityType type)) → StepsOf enums s (define_entity o type id (text_of_name (name_of_type s (EntityType type))) s)
+entity_steps : (enums : Enums) (o : Option (List (List ℕ))) (type id : List ℕ) (s : Tables) → members_of enums type ≡ o → IsEncodableId o id → IsSome (name_of_type s (EntityType type)) → IsObeyable enums s (define_entity o type id (text_of_name (name_of_type s (EntityType type))) s)
 entity_steps enums None type id s e f h = define_steps enums (LiteralTerm (EntityLiteral type id)) _ _ s (λ state fit. entity_good enums s type id e h f state fit) (λ state fit. (tt, tt)) (ap (λ o. entity_literal_lines o (text_of_name (name_of_type s (EntityType type))) id (next_term s)) e)
 entity_steps enums (Some members) type id s e f h = member_stands enums s type id members e f h
 
@@ -148,7 +148,7 @@ of_fine_id None id f = tt
 of_fine_id (Some []) id f = false≢true f
 of_fine_id (Some (m ∷ ms)) id f = tt
 
-literals_step : (enums : Enums) (p : PlainLiteral) (s : Tables) → IsEncodableLiteral enums p → StepsOf enums s (encode_literal enums p s)
+literals_step : (enums : Enums) (p : PlainLiteral) (s : Tables) → IsEncodableLiteral enums p → IsObeyable enums s (encode_literal enums p s)
 literals_step enums (BitVecLiteral width number) s f = no_step enums s
 literals_step enums (BoolLiteral b) s f = no_step enums s
 literals_step enums (EntityLiteral type id) s f = unless_steps enums (name_of_term s (LiteralTerm (EntityLiteral type id))) s _
@@ -167,7 +167,7 @@ literals_step enums (StringLiteral text) s f = no_step enums s
 
 -- ---- applications
 
-heads_step : (enums : Enums) (op : PlainOp) (ts : PlainTerms) (type : PlainType) (s : Tables) → IsEncodableOp enums op ts type → StepsOf enums s (encode_head enums op ts s)
+heads_step : (enums : Enums) (op : PlainOp) (ts : PlainTerms) (type : PlainType) (s : Tables) → IsEncodableOp enums op ts type → IsObeyable enums s (encode_head enums op ts s)
 heads_step enums (UufOp f) ts type s h = functions_step enums f s h.0 h.1
 heads_step enums op ts type s h = no_step enums s
 
@@ -180,8 +180,8 @@ same_line : (op : PlainOp) {n : List ℕ} {a b c d : Expression} {es fs : List E
 same_line op {n} p q r = λ i. DefineFun n (p i) (application_body (q i) op (r i)) ∷ []
 
 applications_step : (enums : Enums) (m : Rendering) (op : PlainOp) (ts : PlainTerms) (type : PlainType) (s : Tables) → application_rendering op ts type ≡ m → IsEncodableType enums type → AreEncodable enums ts → IsEncodableOp enums op ts type → HasArgument ts
-    → StepsOf enums (encode_type enums type s).tables (encode_terms enums ts (encode_type enums type s).tables)
-    → StepsOf enums (encode_type enums type s).tables (define_application enums m op ts type (λ w. encode_terms enums ts w) (encode_type enums type s).made (encode_type enums type s).tables)
+    → IsObeyable enums (encode_type enums type s).tables (encode_terms enums ts (encode_type enums type s).tables)
+    → IsObeyable enums (encode_type enums type s).tables (define_application enums m op ts type (λ w. encode_terms enums ts w) (encode_type enums type s).made (encode_type enums type s).tables)
 applications_step enums AsApplication op ts type s e f a o some arguments =
     let u : Tables = (encode_type enums type s).tables in
     let w : Tables = (encode_terms enums ts u).tables in
@@ -218,7 +218,7 @@ applications_step enums AsFalse op ts type s e f a o some arguments = absurd (no
 -- ---- terms
 
 none_steps : (enums : Enums) (type : PlainType) (s : Tables) → IsEncodableType enums type
-    → Steps enums s ((encode_type enums (OptionType type) s).lines ++ (define (NoneTerm type) (encode_type enums (OptionType type) s).made (none_body (encode_type enums (OptionType type) s).made) (encode_type enums (OptionType type) s).tables).lines)
+    → AreObeyable enums s ((encode_type enums (OptionType type) s).lines ++ (define (NoneTerm type) (encode_type enums (OptionType type) s).made (none_body (encode_type enums (OptionType type) s).made) (encode_type enums (OptionType type) s).tables).lines)
     (define (NoneTerm type) (encode_type enums (OptionType type) s).made (none_body (encode_type enums (OptionType type) s).made) (encode_type enums (OptionType type) s).tables).tables
 none_steps enums type s f =
     let u : Tables = (encode_type enums (OptionType type) s).tables in
@@ -229,7 +229,7 @@ none_steps enums type s f =
     (ap (λ (e : Expression). DefineFun (next_term u) e (none_body e) ∷ []) (sort_later enums (OptionType type) s u (itself u)).1))
 
 variable_steps : (enums : Enums) (id : List ℕ) (type : PlainType) (s : Tables) → IsEncodableType enums type
-    → StepsOf enums s (encode_type enums type s >>= λ sort v. enter_term (VariableTerm id type) (next_term v) (variable_lines id (next_term v) sort) v)
+    → IsObeyable enums s (encode_type enums type s >>= λ sort v. enter_term (VariableTerm id type) (next_term v) (variable_lines id (next_term v) sort) v)
 variable_steps enums id type s f =
     let u : Tables = (encode_type enums type s).tables in
     steps_then enums (types_step enums type s f)
@@ -238,7 +238,7 @@ variable_steps enums id type s f =
     (ap (λ (e : Expression). variable_lines id (next_term u) e) (sort_later enums type s u (itself u)).1))
 
 record_steps : (enums : Enums) (x : PlainFields) (s : Tables) → IsEncodableType enums (RecordType (field_types x)) → AreEncodableFields enums x
-    → StepsOf enums (encode_fields enums x (encode_type enums (RecordType (field_types x)) s).tables).tables
+    → IsObeyable enums (encode_fields enums x (encode_type enums (RecordType (field_types x)) s).tables).tables
     (define (RecordTerm x) (encode_type enums (RecordType (field_types x)) s).made
     (record_body (encode_type enums (RecordType (field_types x)) s).made (encode_fields enums x (encode_type enums (RecordType (field_types x)) s).tables).made)
     (encode_fields enums x (encode_type enums (RecordType (field_types x)) s).tables).tables)
@@ -261,7 +261,7 @@ record_steps enums x s f g =
     (λ state fit. (listed.1, tt)) (λ i. DefineFun (next_term w) (p i) (record_body (p i) (r i)) ∷ [])
 
 set_steps : (enums : Enums) (element : PlainType) (ts : PlainTerms) (s : Tables) → IsEncodableType enums element → AreEncodable enums ts
-    → StepsOf enums (encode_terms enums ts (encode_type enums (SetType element) s).tables).tables
+    → IsObeyable enums (encode_terms enums ts (encode_type enums (SetType element) s).tables).tables
     (define (SetTerm element ts) (encode_type enums (SetType element) s).made
     (set_body (encode_type enums (SetType element) s).made (encode_terms enums ts (encode_type enums (SetType element) s).tables).made)
     (encode_terms enums ts (encode_type enums (SetType element) s).tables).tables)
@@ -281,7 +281,7 @@ set_steps enums element ts s f g =
     (λ state fit. (listed.1, tt)) (λ i. DefineFun (next_term w) (p i) (set_body (p i) (r i)) ∷ [])
 
 some_steps : (enums : Enums) (t : PlainTerm) (s : Tables) → IsEncodableType enums (type_of t) → IsEncodable enums t
-    → StepsOf enums (encode_term enums t (encode_type enums (OptionType (type_of t)) s).tables).tables
+    → IsObeyable enums (encode_term enums t (encode_type enums (OptionType (type_of t)) s).tables).tables
     (define (SomeTerm t) (encode_type enums (OptionType (type_of t)) s).made
     (some_body (encode_term enums t (encode_type enums (OptionType (type_of t)) s).tables).made)
     (encode_term enums t (encode_type enums (OptionType (type_of t)) s).tables).tables)
@@ -298,7 +298,7 @@ some_steps enums t s f g =
     (λ state fit. (ap is_some made, tt)) (λ i. DefineFun (next_term w) (p i) (some_body (text_or_nothing (made i))) ∷ [])
 
 mutual
-  pub terms_step : (enums : Enums) (t : PlainTerm) (s : Tables) → IsEncodable enums t → StepsOf enums s (encode_term enums t s)
+  pub terms_step : (enums : Enums) (t : PlainTerm) (s : Tables) → IsEncodable enums t → IsObeyable enums s (encode_term enums t s)
   terms_step enums (Application op ts type) s f = unless_steps enums (name_of_term s (Application op ts type)) s _
       (steps_then enums (types_step enums type s f.0)
       (applications_step enums (application_rendering op ts type) op ts type s refl f.0 f.1 f.2 f.3 (each_step enums ts (encode_type enums type s).tables f.1)))
@@ -315,10 +315,10 @@ mutual
       (steps_then enums (terms_step enums t (encode_type enums (OptionType (type_of t)) s).tables f.1) (some_steps enums t s f.0 f.1)))
   terms_step enums (VariableTerm id type) s f = unless_steps enums (name_of_term s (VariableTerm id type)) s _ (variable_steps enums id type s f)
 
-  pub each_step : (enums : Enums) (ts : PlainTerms) (s : Tables) → AreEncodable enums ts → StepsOf enums s (encode_terms enums ts s)
+  pub each_step : (enums : Enums) (ts : PlainTerms) (s : Tables) → AreEncodable enums ts → IsObeyable enums s (encode_terms enums ts s)
   each_step enums no_terms s f = no_step enums s
   each_step enums (one_term t ts) s f = steps_then enums (terms_step enums t s f.0) (steps_then enums (each_step enums ts _ f.1) (no_step enums _))
 
-  pub fields_step : (enums : Enums) (x : PlainFields) (s : Tables) → AreEncodableFields enums x → StepsOf enums s (encode_fields enums x s)
+  pub fields_step : (enums : Enums) (x : PlainFields) (s : Tables) → AreEncodableFields enums x → IsObeyable enums s (encode_fields enums x s)
   fields_step enums no_fields s f = no_step enums s
   fields_step enums (one_field a t x) s f = steps_then enums (terms_step enums t s f.0) (steps_then enums (fields_step enums x _ f.1) (no_step enums _))

@@ -24,7 +24,7 @@ use Rattle.law_lines.proofs.Making.{types_are_made}
 use Rattle.law_lines.proofs.Stays.{sorts_stay, sorts_stand}
 use Rattle.law_lines.specs.Command.{all_built, is_written, is_written_constructor}
 use Rattle.law_lines.specs.Encodable.{HasMember, IsEncodableType, AreEncodableTypes}
-use Rattle.law_lines.specs.Fit.{EachLine, Fit, Steps, StepsOf}
+use Rattle.law_lines.specs.Fit.{EachLine, Fit, AreObeyable, IsObeyable}
 use Rattle.law_lines.proofs.Known.{GoodSort, sort_good}
 use Rattle.law_lines.proofs.Enter.{has_stays}
 use Rattle.law_lines.proofs.Single.{no_step, steps_then, comment_first, unless_steps, function_steps}
@@ -46,13 +46,13 @@ has_first : (d : List ℕ) (p : ℕ) (ms : List (List ℕ)) → HasMember (Some 
 has_first d p [] h = absurd h
 has_first d p (m ∷ ms) h = refl
 
-entity_steps : (enums : Enums) (type : List ℕ) (s : Tables) → HasMember (members_of enums type) → StepsOf enums s (declare_entity enums type s)
+entity_steps : (enums : Enums) (type : List ℕ) (s : Tables) → HasMember (members_of enums type) → IsObeyable enums s (declare_entity enums type s)
 entity_steps enums type s some = go (members_of enums type) refl
   where
     d : List ℕ
     d = next_entity s
 
-    go : (o : Option (List (List ℕ))) → o ≡ members_of enums type → Steps enums s (entity_lines o type (next_entity s)) (with_type (EntityType type) (next_entity s) s)
+    go : (o : Option (List (List ℕ))) → o ≡ members_of enums type → AreObeyable enums s (entity_lines o type (next_entity s)) (with_type (EntityType type) (next_entity s) s)
     go None e = comment_first enums _ s _ _ (type_line enums s (EntityType type) (next_entity s) (entity_new enums type s) _ (ap (λ o. listed_entity o (next_entity s)) e ∙ sym (names_listed enums (EntityType type) (next_entity s))) refl
         (λ state fit. let g = sort_good enums s state fit StringType tt tt in (
           rw (field_sort state (name (codes "String")) g.0) refl,
@@ -78,7 +78,7 @@ has_kind_constructor DecimalKind = refl
 has_kind_constructor DatetimeKind = refl
 has_kind_constructor DurationKind = refl
 
-kind_steps : (enums : Enums) (k : ExtensionKind) (s : Tables) → name_of_type s (ExtensionType k) ≡ None → StepsOf enums s (declare_kind k s)
+kind_steps : (enums : Enums) (k : ExtensionKind) (s : Tables) → name_of_type s (ExtensionType k) ≡ None → IsObeyable enums s (declare_kind k s)
 kind_steps enums k s none = type_line enums s (ExtensionType k) (kind_name k) (kind_new enums k s none) (kind_constructors k) (sym (names_listed enums (ExtensionType k) (kind_name k))) (has_kind_constructor k) (λ state fit. kind_fields enums k s state fit) tt (λ P c h. (h, tt))
 
 -- ---- records
@@ -128,7 +128,7 @@ sorts_are_so s no_attributes (sort ∷ sorts) h = absurd h
 sorts_are_so s (attribute a t x) [] h = absurd h
 sorts_are_so s (attribute a t x) (sort ∷ sorts) h = let a = h.0.1 in let b = sorts_are_so s x sorts h.1 in λ i. a i ∷ b i
 
-record_steps : (enums : Enums) (x : AttributeTypes) (sorts : List Expression) (s : Tables) → AreEncodableTypes enums x → SortsAre s x sorts → StepsOf enums s (declare_record x sorts s)
+record_steps : (enums : Enums) (x : AttributeTypes) (sorts : List Expression) (s : Tables) → AreEncodableTypes enums x → SortsAre s x sorts → IsObeyable enums s (declare_record x sorts s)
 record_steps enums x sorts s f h =
     let d : List ℕ = next_record s in
     comment_first enums _ s _ _ (type_line enums s (RecordType x) d (record_new enums x s) (Fielded d (attribute_selectors d 0 sorts) ∷ [])
@@ -139,12 +139,12 @@ record_steps enums x sorts s f h =
 
 -- ---- types
 
-unless_new : (enums : Enums) (t : PlainType) (o : Option (List ℕ)) (s : Tables) (f : Tables → Written Expression) → name_of_type s t ≡ o → (name_of_type s t ≡ None → StepsOf enums s (f s)) → StepsOf enums s (unless_named o s f)
+unless_new : (enums : Enums) (t : PlainType) (o : Option (List ℕ)) (s : Tables) (f : Tables → Written Expression) → name_of_type s t ≡ o → (name_of_type s t ≡ None → IsObeyable enums s (f s)) → IsObeyable enums s (unless_named o s f)
 unless_new enums t (Some n) s f e h = no_step enums s
 unless_new enums t None s f e h = h e
 
 mutual
-  pub types_step : (enums : Enums) (t : PlainType) (s : Tables) → IsEncodableType enums t → StepsOf enums s (encode_type enums t s)
+  pub types_step : (enums : Enums) (t : PlainType) (s : Tables) → IsEncodableType enums t → IsObeyable enums s (encode_type enums t s)
   types_step enums (OptionType t) s f = steps_then enums (types_step enums t s f) (no_step enums _)
   types_step enums (BitVecType width) s f = no_step enums s
   types_step enums BoolType s f = no_step enums s
@@ -155,7 +155,7 @@ mutual
       (steps_then enums (attributes_step enums x s f) (record_steps enums x _ _ f (sorts_are enums x s)))
   types_step enums (SetType t) s f = steps_then enums (types_step enums t s f) (no_step enums _)
 
-  attributes_step : (enums : Enums) (x : AttributeTypes) (s : Tables) → AreEncodableTypes enums x → StepsOf enums s (encode_attributes enums x s)
+  attributes_step : (enums : Enums) (x : AttributeTypes) (s : Tables) → AreEncodableTypes enums x → IsObeyable enums s (encode_attributes enums x s)
   attributes_step enums no_attributes s f = no_step enums s
   attributes_step enums (attribute a t x) s f = steps_then enums (types_step enums t s f.0) (steps_then enums (attributes_step enums x _ f.1) (no_step enums _))
 
@@ -174,7 +174,7 @@ itself s = record { terms = λ t n h. h; types = λ t n h. h; functions = λ t n
 pub good_later : (enums : Enums) (t : PlainType) (s v : Tables) → Keeps (encode_type enums t s).tables v → IsEncodableType enums t → (state : State) → Fit enums v state → GoodSort state (encode_type enums t s).made
 good_later enums t s v k f state fit = let p = sort_later enums t s v k in subst (λ e. GoodSort state e) p.1 (sort_good enums v state fit t f p.0)
 
-pub functions_step : (enums : Enums) (f : PlainFunction) (s : Tables) → IsEncodableType enums f.argument → IsEncodableType enums f.output → StepsOf enums s (encode_function enums f s)
+pub functions_step : (enums : Enums) (f : PlainFunction) (s : Tables) → IsEncodableType enums f.argument → IsEncodableType enums f.output → IsObeyable enums s (encode_function enums f s)
 functions_step enums f s a b = unless_steps enums (name_of_function s f) s _
     (comment_first enums f.id s _ _ (steps_then enums (types_step enums f.argument s a) (steps_then enums (types_step enums f.output u b)
     (function_steps enums f (encode_type enums f.argument s).made (encode_type enums f.output u).made v

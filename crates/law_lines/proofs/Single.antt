@@ -1,4 +1,4 @@
--- Steps one after the other, and the steps of one line.
+-- AreObeyable one after the other, and the steps of one line.
 use Rattle.std.proofs.Common.{◌≡◌, ℕ, true, false, ◌&&◌, List, [], ◌∷◌, ◌++◌, length, refl, sym, ap, ◌∙◌, subst, Option, Some, None, arith}
 use Rattle.std.specs.Prelude.{bytes_eq}
 use Rattle.std.specs.List.{list_all}
@@ -27,7 +27,7 @@ use Rattle.law_lines.proofs.Kept.{BuildsNone, itself_kept, kept_then, name_kept,
 use Rattle.law_lines.specs.Naming.{type_sort}
 use Rattle.law_lines.specs.TableGrowth.{Keeps}
 use Rattle.law_lines.proofs.Grow.{lookup_append}
-use Rattle.law_lines.specs.Fit.{PartsHaveEntries, EachLine, LineIsDeclared, Fit, Steps, StepsOf, TermEntryIsDeclared, is_old_name_in, is_name_of_entry}
+use Rattle.law_lines.specs.Fit.{PartsHaveEntries, EachLine, LineIsDeclared, Fit, AreObeyable, IsObeyable, TermEntryIsDeclared, is_old_name_in, is_name_of_entry}
 use Rattle.law_lines.proofs.Basic.{t_name, f_name, leads_alone}
 use Rattle.law_lines.proofs.Known.{GoodSort, GoodText}
 use Rattle.law_lines.proofs.OnlyEntries.{as_is, name_stays, term_is_entrys, function_is_entrys}
@@ -45,10 +45,10 @@ commands_append (l ∷ ls) ms = rw (commands_append ls ms, append_assoc)
 pub run_then : (ls ms : List Line) (s t u : State) → run (commands ls) s ≡ Some t → run (commands ms) t ≡ Some u → run (commands (ls ++ ms)) s ≡ Some u
 run_then ls ms s t u a b = ap (λ (cs : List Command). run cs s) (commands_append ls ms) ∙ runs_then (commands ls) (commands ms) s t u a b
 
-pub no_step : (enums : Enums) (s : Tables) → Steps enums s [] s
+pub no_step : (enums : Enums) (s : Tables) → AreObeyable enums s [] s
 no_step enums s state fit = record { after = state; runs = refl; fits = fit; written = refl; kept = itself_kept state; lines_are_declared = tt; same_below = refl; same_assertions = refl }
 
-pub steps_then : (enums : Enums) {s : Tables} {ls : List Line} {u : Tables} {ms : List Line} {v : Tables} → Steps enums s ls u → Steps enums u ms v → Steps enums s (ls ++ ms) v
+pub steps_then : (enums : Enums) {s : Tables} {ls : List Line} {u : Tables} {ms : List Line} {v : Tables} → AreObeyable enums s ls u → AreObeyable enums u ms v → AreObeyable enums s (ls ++ ms) v
 steps_then enums {s} {ls} {u} {ms} {v} a b state fit =
     let x = a state fit in
     let y = b x.after x.fits in
@@ -63,12 +63,12 @@ steps_then enums {s} {ls} {u} {ms} {v} a b state fit =
       same_assertions = y.same_assertions ∙ x.same_assertions;
     }
 
-pub comment_first : (enums : Enums) (text : List ℕ) (s : Tables) (ls : List Line) (u : Tables) → Steps enums s ls u → Steps enums s (Comment text ∷ ls) u
+pub comment_first : (enums : Enums) (text : List ℕ) (s : Tables) (ls : List Line) (u : Tables) → AreObeyable enums s ls u → AreObeyable enums s (Comment text ∷ ls) u
 comment_first enums text s ls u a state fit =
     let x = a state fit in
     record { after = x.after; runs = x.runs; fits = x.fits; written = x.written; kept = x.kept; lines_are_declared = (tt, x.lines_are_declared); same_below = x.same_below; same_assertions = x.same_assertions }
 
-pub unless_steps : (enums : Enums) (o : Option (List ℕ)) (s : Tables) (f : Tables → Written Expression) → StepsOf enums s (f s) → StepsOf enums s (unless_named o s f)
+pub unless_steps : (enums : Enums) (o : Option (List ℕ)) (s : Tables) (f : Tables → Written Expression) → IsObeyable enums s (f s) → IsObeyable enums s (unless_named o s f)
 unless_steps enums (Some n) s f h = no_step enums s
 unless_steps enums None s f h = h
 
@@ -198,7 +198,7 @@ fit_function enums s state fit f entry none parts own =
 -- ---- the lines of definitions, constants and functions
 
 pub define_steps : (enums : Enums) (t : PlainTerm) (sort body : Expression) (s : Tables)
-    → ((state : State) → Fit enums s state → GoodSort state sort × GoodText state body × TypeHasEntries s (type_of t)) → ((state : State) → Fit enums s state → PartsHaveEntries s t) → term_lines enums s t (next_term s) ≡ DefineFun (next_term s) sort body ∷ [] → StepsOf enums s (define t sort body s)
+    → ((state : State) → Fit enums s state → GoodSort state sort × GoodText state body × TypeHasEntries s (type_of t)) → ((state : State) → Fit enums s state → PartsHaveEntries s t) → term_lines enums s t (next_term s) ≡ DefineFun (next_term s) sort body ∷ [] → IsObeyable enums s (define t sort body s)
 define_steps enums t sort body s good parts own state fit =
     let n = next_term s in
     let g = good state fit in
@@ -216,7 +216,7 @@ define_steps enums t sort body s good parts own state fit =
     }
 
 pub constant_steps : (enums : Enums) (t : PlainTerm) (text : List ℕ) (sort : Expression) (s : Tables)
-    → ((state : State) → Fit enums s state → GoodSort state sort × TypeHasEntries s (type_of t)) → ((state : State) → Fit enums s state → PartsHaveEntries s t) → term_lines enums s t (next_term s) ≡ Comment text ∷ DeclareConst (next_term s) sort ∷ [] → StepsOf enums s (enter_term t (next_term s) (Comment text ∷ DeclareConst (next_term s) sort ∷ []) s)
+    → ((state : State) → Fit enums s state → GoodSort state sort × TypeHasEntries s (type_of t)) → ((state : State) → Fit enums s state → PartsHaveEntries s t) → term_lines enums s t (next_term s) ≡ Comment text ∷ DeclareConst (next_term s) sort ∷ [] → IsObeyable enums s (enter_term t (next_term s) (Comment text ∷ DeclareConst (next_term s) sort ∷ []) s)
 constant_steps enums t text sort s good parts own state fit =
     let n = next_term s in
     let g = good state fit in
@@ -233,7 +233,7 @@ constant_steps enums t text sort s good parts own state fit =
     }
 
 pub function_steps : (enums : Enums) (f : PlainFunction) (argument sort : Expression) (s : Tables)
-    → ((state : State) → Fit enums s state → GoodSort state argument × GoodSort state sort) → TypeHasEntries s f.argument × (type_sort s f.argument ≡ argument) → TypeHasEntries s f.output × (type_sort s f.output ≡ sort) → StepsOf enums s (enter_function f (next_function s) (DeclareFun (next_function s) argument sort ∷ []) s)
+    → ((state : State) → Fit enums s state → GoodSort state argument × GoodSort state sort) → TypeHasEntries s f.argument × (type_sort s f.argument ≡ argument) → TypeHasEntries s f.output × (type_sort s f.output ≡ sort) → IsObeyable enums s (enter_function f (next_function s) (DeclareFun (next_function s) argument sort ∷ []) s)
 function_steps enums f argument sort s good a b state fit =
     let n = next_function s in
     let g = good state fit in

@@ -6,7 +6,8 @@ use Rattle.law_texts.specs.Reading.{Expression, Leaf, Node, Expressions, Nil, Co
 use Rattle.law_scripts.specs.Script as script
 use Rattle.law_scripts.specs.Script.{Command}
 use Rattle.law_scripts.specs.Written.{is_name}
-use Rattle.law_lines.specs.Line.{Constructor, Bare, Fielded, Line, Comment, DeclareDatatype, DeclareConst, DeclareFun, DefineFun, Assert, Push, Pop}
+use Rattle.law_lines.specs.Line.{Constructor, Bare, Fielded, Line, Comment, DeclareDatatype, DeclareConst, DeclareFun, DefineFun, Assert}
+use Rattle.law_lines.specs.Line.{Push, Pop}
 use Rattle.law_terms.specs.TypeValues.{is_code_point}
 
 -- a constructor, as the meaning of scripts has it

@@ -1,7 +1,13 @@
 -- Terms for which lines are a script: what typed terms without fault are.
 use Rattle.std.specs.Prelude.{◌≡◌, ◌⊎◌, ℕ, true, nat_lt, chars, length, List, [], Option, Some, None}
 use Rattle.std.specs.List.{list_all}
-use Rattle.law_terms.specs.Plain.{ExtensionKind, IpAddrKind, DecimalKind, DatetimeKind, DurationKind, PlainType, OptionType, BitVecType, EntityType, ExtensionType, RecordType, SetType, AttributeTypes, no_attributes, attribute, ExtensionOp, DatetimeOfBitVecOp, DatetimeValOp, DecimalValOp, DurationOfBitVecOp, DurationValOp, IpAddrV4Op, IpAddrV6Op, IpIsV4Op, IpPrefixV4Op, IpPrefixV6Op, PlainOp, BvnegoOp, ExtOp, RecordGetOp, StringLikeOp, UufOp, PlainLiteral, EntityLiteral, StringLiteral, PlainTerm, Application, NoneTerm, LiteralTerm, RecordTerm, SetTerm, SomeTerm, VariableTerm, PlainTerms, no_terms, one_term, PlainFields, no_fields, one_field}
+use Rattle.law_terms.specs.Plain.{ExtensionKind, IpAddrKind, DecimalKind, DatetimeKind, DurationKind, PlainType, OptionType, BitVecType}
+use Rattle.law_terms.specs.Plain.{EntityType, ExtensionType, RecordType, SetType, AttributeTypes, no_attributes, attribute, ExtensionOp}
+use Rattle.law_terms.specs.Plain.{DatetimeOfBitVecOp, DatetimeValOp, DecimalValOp, DurationOfBitVecOp, DurationValOp, IpAddrV4Op}
+use Rattle.law_terms.specs.Plain.{IpAddrV6Op, IpIsV4Op, IpPrefixV4Op, IpPrefixV6Op, PlainOp, BvnegoOp, ExtOp, RecordGetOp, StringLikeOp}
+use Rattle.law_terms.specs.Plain.{UufOp, PlainLiteral, EntityLiteral, StringLiteral, PlainTerm, Application, NoneTerm, LiteralTerm}
+use Rattle.law_terms.specs.Plain.{RecordTerm, SetTerm, SomeTerm, VariableTerm, PlainTerms, no_terms, one_term, PlainFields, no_fields}
+use Rattle.law_terms.specs.Plain.{one_field}
 use Rattle.law_terms.specs.TypeValues.{Enums, members_of, is_code_point}
 use Rattle.law_terms.specs.Types.{type_of}
 use Rattle.law_terms.specs.Parts.{attribute_names}
@@ -78,7 +84,8 @@ abbrev pub IsEncodableOp : Enums → PlainOp → PlainTerms → PlainType → Ty
 IsEncodableOp enums BvnegoOp ts type = IsLeast (application_rendering BvnegoOp ts type)
 IsEncodableOp enums (ExtOp x) ts type = (first_type ts ≡ ExtensionType (kind_of_op x)) ⊎ (type ≡ ExtensionType (kind_of_op x))
 IsEncodableOp enums (RecordGetOp a) ts type =
-    (attributes : AttributeTypes) × (first_type ts ≡ RecordType attributes) × (nat_lt (place_of a (attribute_names attributes)) (length (attribute_names attributes)) ≡ true)
+    (attributes : AttributeTypes) × (first_type ts ≡ RecordType attributes)
+    × (nat_lt (place_of a (attribute_names attributes)) (length (attribute_names attributes)) ≡ true)
 IsEncodableOp enums (StringLikeOp p) ts type = IsOne ts × (list_all is_pattern_part p ≡ true)
 IsEncodableOp enums (UufOp f) ts type = IsEncodableType enums f.argument × IsEncodableType enums f.output
 IsEncodableOp enums op ts type = Unit {0}
@@ -87,7 +94,8 @@ abbrev mutual
   -- A term for which lines can be written: its types have sorts, its parts are such terms, and its operator can be written at its
   -- arguments, of which there is one at least.
   pub IsEncodable : Enums → PlainTerm → Type 0
-  IsEncodable enums (Application op ts type) = IsEncodableType enums type × AreEncodable enums ts × IsEncodableOp enums op ts type × HasArgument ts
+  IsEncodable enums (Application op ts type) =
+      IsEncodableType enums type × AreEncodable enums ts × IsEncodableOp enums op ts type × HasArgument ts
   IsEncodable enums (NoneTerm type) = IsEncodableType enums type
   IsEncodable enums (LiteralTerm p) = IsEncodableLiteral enums p
   IsEncodable enums (RecordTerm fields) = IsEncodableType enums (type_of (RecordTerm fields)) × AreEncodableFields enums fields

@@ -1,13 +1,18 @@
 -- What stands for terms and types that have entries, the entries' own lines and their names.
 use Rattle.std.specs.Prelude.{◌≡◌, ℕ, suc, false, IsSome, List, [], ◌∷◌, ◌++◌, Option, Some, None}
-use Rattle.law_terms.specs.Plain.{PlainType, OptionType, EntityType, ExtensionType, RecordType, SetType, AttributeTypes, no_attributes, attribute, PlainFunction, PlainOp, UufOp, PlainLiteral, EntityLiteral, ExtensionLiteral, PlainTerm, Application, NoneTerm, LiteralTerm, RecordTerm, SetTerm, SomeTerm, VariableTerm, PlainTerms, no_terms, one_term, PlainFields, no_fields, one_field}
+use Rattle.law_terms.specs.Plain.{PlainType, OptionType, EntityType, ExtensionType, RecordType, SetType, AttributeTypes, no_attributes}
+use Rattle.law_terms.specs.Plain.{attribute, PlainFunction, PlainOp, UufOp, PlainLiteral, EntityLiteral, ExtensionLiteral, PlainTerm}
+use Rattle.law_terms.specs.Plain.{Application, NoneTerm, LiteralTerm, RecordTerm, SetTerm, SomeTerm, VariableTerm, PlainTerms, no_terms}
+use Rattle.law_terms.specs.Plain.{one_term, PlainFields, no_fields, one_field}
 use Rattle.law_terms.specs.TypeValues.{Enums, members_of}
 use Rattle.law_terms.specs.Types.{type_of}
 use Rattle.law_terms.specs.Parts.{attribute_names}
 use Rattle.law_texts.specs.Reading.{Expression}
 use Rattle.law_scripts.specs.Script.{name}
 use Rattle.law_lines.specs.Line.{Line, DefineFun}
-use Rattle.law_lines.specs.LineForms.{entity_lines, record_lines, kind_lines, function_heading, function_declaration, variable_lines, some_body, none_body, set_body, record_body, entity_body, extension_body, application_body, least_body}
+use Rattle.law_lines.specs.LineForms.{entity_lines, record_lines, kind_lines, function_heading, function_declaration, variable_lines}
+use Rattle.law_lines.specs.LineForms.{some_body, none_body, set_body, record_body, entity_body, extension_body, application_body}
+use Rattle.law_lines.specs.LineForms.{least_body}
 use Rattle.law_lines.specs.TermTexts.{bool_name, text_of}
 use Rattle.law_lines.specs.EntryNames.{enum_member}
 use Rattle.law_lines.specs.Lines.{encode_head, Rendering, AsApplication, AsEqualsIntMin, AsFalse, application_rendering}
@@ -68,7 +73,8 @@ entity_literal_lines None sort id n = DefineFun n (name sort) (entity_body sort 
 -- the own lines of a literal's entry; only entities and values of extension types have entries
 abbrev pub literal_lines : Enums → Tables → PlainLiteral → (name : List ℕ) → List Line
 literal_lines enums s (EntityLiteral type id) n = entity_literal_lines (members_of enums type) (type_name s (EntityType type)) id n
-literal_lines enums s (ExtensionLiteral x) n = DefineFun n (type_sort s (type_of (LiteralTerm (ExtensionLiteral x)))) (extension_body x) ∷ []
+literal_lines enums s (ExtensionLiteral x) n =
+    DefineFun n (type_sort s (type_of (LiteralTerm (ExtensionLiteral x)))) (extension_body x) ∷ []
 literal_lines enums s p n = []
 
 -- the own lines of a term's entry, from the names of its parts
@@ -77,7 +83,8 @@ term_lines enums s (Application op ts type) n = application_lines enums s (appli
 term_lines enums s (NoneTerm type) n = DefineFun n (type_sort s (OptionType type)) (none_body (type_sort s (OptionType type))) ∷ []
 term_lines enums s (LiteralTerm p) n = literal_lines enums s p n
 term_lines enums s (RecordTerm fields) n =
-    DefineFun n (type_sort s (type_of (RecordTerm fields))) (record_body (type_sort s (type_of (RecordTerm fields))) (texts_of_fields s fields)) ∷ []
+    DefineFun n (type_sort s (type_of (RecordTerm fields)))
+    (record_body (type_sort s (type_of (RecordTerm fields))) (texts_of_fields s fields)) ∷ []
 term_lines enums s (SetTerm element ts) n =
     DefineFun n (type_sort s (SetType element)) (set_body (type_sort s (SetType element)) (texts_of s ts)) ∷ []
 term_lines enums s (SomeTerm t) n =

@@ -1,6 +1,8 @@
 -- The names of entries, and those of constructors and selectors.
 use Rattle.std.specs.Prelude.{ℕ, suc, if◌then◌else◌, bytes_eq, codes, List, [], ◌∷◌, ◌++◌}
-use Rattle.law_terms.specs.Plain.{ExtensionKind, IpAddrKind, DecimalKind, DatetimeKind, DurationKind, PlainType, ExtensionType, RecordType, ExtensionOp, DatetimeValOp, DecimalValOp, DurationValOp, IpAddrV4Op, IpAddrV6Op, IpPrefixV4Op, IpPrefixV6Op}
+use Rattle.law_terms.specs.Plain.{ExtensionKind, IpAddrKind, DecimalKind, DatetimeKind, DurationKind, PlainType, ExtensionType, RecordType}
+use Rattle.law_terms.specs.Plain.{ExtensionOp, DatetimeValOp, DecimalValOp, DurationValOp, IpAddrV4Op, IpAddrV6Op, IpPrefixV4Op}
+use Rattle.law_terms.specs.Plain.{IpPrefixV6Op}
 use Rattle.law_scripts.specs.Numerals.{numbered}
 
 -- ---- names of entries, a letter and the place of the entry in its table

@@ -1,13 +1,16 @@
 -- When tables and the state of a script belong together, as far as the next line needs it: what entries name is declared,
 -- and nothing is declared that a later entry is named.
-use Rattle.std.specs.Prelude.{◌≡◌, ℕ, Bool, true, false, ◌&&◌, ◌||◌, if◌then◌else◌, ◌==◌, nat_lt, bytes_eq, is_some, IsSome, codes, length, map, List, [], ◌∷◌, Some}
+use Rattle.std.specs.Prelude.{◌≡◌, ℕ, Bool, true, false, ◌&&◌, ◌||◌, if◌then◌else◌, ◌==◌, nat_lt, bytes_eq, is_some, IsSome, codes, length}
+use Rattle.std.specs.Prelude.{map, List, [], ◌∷◌, Some}
 use Rattle.std.specs.List.{list_all, list_any, flat_map, take_while}
-use Rattle.law_terms.specs.Plain.{ExtensionKind, IpAddrKind, DecimalKind, DatetimeKind, DurationKind, PlainType, ExtensionType, PlainFunction, PlainOp, RecordGetOp, PlainTerm, Application, PlainTerms}
+use Rattle.law_terms.specs.Plain.{ExtensionKind, IpAddrKind, DecimalKind, DatetimeKind, DurationKind, PlainType, ExtensionType}
+use Rattle.law_terms.specs.Plain.{PlainFunction, PlainOp, RecordGetOp, PlainTerm, Application, PlainTerms}
 use Rattle.law_terms.specs.TypeValues.{Enums}
 use Rattle.law_terms.specs.Types.{type_of}
 use Rattle.law_texts.specs.Lexicon.{is_digit, number_in}
 use Rattle.law_texts.specs.Reading.{Expression}
-use Rattle.law_scripts.specs.Script.{Constructor, Entry, Constant, Function, Defined, Builds, State, is_in, names_of, declared_sorts, has_name, has_sort, run}
+use Rattle.law_scripts.specs.Script.{Constructor, Entry, Constant, Function, Defined, Builds, State, is_in, names_of, declared_sorts}
+use Rattle.law_scripts.specs.Script.{has_name, has_sort, run}
 use Rattle.law_scripts.specs.Meanings.{names_in}
 use Rattle.law_scripts.specs.Written.{is_name}
 use Rattle.law_lines.specs.Line.{Line, DeclareDatatype, DeclareConst, DeclareFun, DefineFun}
@@ -17,7 +20,8 @@ use Rattle.law_lines.specs.LineForms.{kind_constructors}
 use Rattle.law_lines.specs.EntryNames.{kind_name}
 use Rattle.law_lines.specs.Lines.{Written, option_line, first_type}
 use Rattle.law_lines.specs.NameTables.{Tables, no_names, name_of_type}
-use Rattle.law_lines.specs.Entries.{EachEntry, TypeHasEntries, type_lines, function_lines, term_lines, TypePartsHaveEntries, TermPartsHaveEntries}
+use Rattle.law_lines.specs.Entries.{EachEntry, TypeHasEntries, type_lines, function_lines, term_lines, TypePartsHaveEntries}
+use Rattle.law_lines.specs.Entries.{TermPartsHaveEntries}
 use Rattle.law_lines.specs.TableGrowth.{Keeps}
 use Rattle.law_lines.specs.Command.{all_built, commands, is_written_line}
 
@@ -63,7 +67,9 @@ has_kind s kind = is_some (name_of_type s (ExtensionType kind))
 -- a kind that passes a test has an entry
 abbrev pub of_kinds : (test kinds : ExtensionKind → Bool) → Bool
 of_kinds test kinds =
-    (test IpAddrKind && kinds IpAddrKind) || ((test DecimalKind && kinds DecimalKind) || ((test DatetimeKind && kinds DatetimeKind) || (test DurationKind && kinds DurationKind)))
+    (test IpAddrKind && kinds IpAddrKind)
+    || ((test DecimalKind && kinds DecimalKind)
+    || ((test DatetimeKind && kinds DatetimeKind) || (test DurationKind && kinds DurationKind)))
 
 -- A name that is not drawn any more, by these numbers of entries: one whose number is below that of the entries of its letter, one
 -- of options, or one of a kind that has an entry.
@@ -100,7 +106,9 @@ has_entry_name {K} n e = bytes_eq n e.1
 
 -- a constructor or selector of options or of a type's entry, or the name of a function's entry or a term's
 abbrev pub is_name_of_entry : Enums → Tables → List ℕ → Bool
-is_name_of_entry enums s n = is_in n option_names || (list_any (declares_by_entry enums n) s.types || (list_any (has_entry_name n) s.functions || list_any (has_entry_name n) s.terms))
+is_name_of_entry enums s n =
+    is_in n option_names
+    || (list_any (declares_by_entry enums n) s.types || (list_any (has_entry_name n) s.functions || list_any (has_entry_name n) s.terms))
 
 -- the datatype of options or of a type's entry
 abbrev pub is_sort_of_entry : Tables → List ℕ → Bool
@@ -142,15 +150,21 @@ declares_sort state d = is_in d (map (λ p. p.0) (declared_sorts state))
 
 -- What builds values of a datatype is one of these constructors, at its place.
 abbrev pub BuildsOnly : Entries → List ℕ → List (List ℕ) → List Constructor → Type 0
-BuildsOnly here d ps cs = (place : ℕ) (c : List ℕ) (fields : List Expression) (qs : List (List ℕ)) → here c ≡ Some (Builds d qs place fields) → (qs ≡ ps) × (at_place (shown cs) place ≡ Some (c, fields))
+BuildsOnly here d ps cs =
+    (place : ℕ) (c : List ℕ) (fields : List Expression) (qs : List (List ℕ)) → here c ≡ Some (Builds d qs place fields) →
+    (qs ≡ ps) × (at_place (shown cs) place ≡ Some (c, fields))
 
 -- What builds values builds them of a datatype that is declared.
 abbrev pub IsRooted : State → Type 0
-IsRooted state = (d c : List ℕ) (qs : List (List ℕ)) (place : ℕ) (fields : List Expression) → entries state c ≡ Some (Builds d qs place fields) → declares_sort state d ≡ true
+IsRooted state =
+    (d c : List ℕ) (qs : List (List ℕ)) (place : ℕ) (fields : List Expression) → entries state c ≡ Some (Builds d qs place fields) →
+    declares_sort state d ≡ true
 
 -- What a line declares is there, with all that the line says of it; and of a datatype nothing else.
 abbrev pub LineIsDeclared : State → Line → Type 0
-LineIsDeclared state (DeclareDatatype n ps cs) = (has_sort state n (length ps) ≡ true) × Declares (entries state) n ps 0 (all_built cs) × (declares_sort state n ≡ true) × BuildsOnly (entries state) n ps (all_built cs)
+LineIsDeclared state (DeclareDatatype n ps cs) =
+    (has_sort state n (length ps) ≡ true) × Declares (entries state) n ps 0 (all_built cs) × (declares_sort state n ≡ true)
+    × BuildsOnly (entries state) n ps (all_built cs)
 LineIsDeclared state (DeclareConst n sort) = entries state n ≡ Some (Constant sort)
 LineIsDeclared state (DeclareFun n argument sort) = entries state n ≡ Some (Function argument sort)
 LineIsDeclared state (DefineFun n sort body) = entries state n ≡ Some (Defined sort body)
@@ -220,7 +234,8 @@ pub record Kept (state after : State) : Type 0 where
   pub entry : (n : List ℕ) (x : Entry) → entries state n ≡ Some x → entries after n ≡ Some x
   pub sort : (n : List ℕ) (k : ℕ) → has_sort state n k ≡ true → has_sort after n k ≡ true
   pub declared : (d : List ℕ) → declares_sort state d ≡ true → declares_sort after d ≡ true
-  pub built : (d c : List ℕ) (qs : List (List ℕ)) (place : ℕ) (fields : List Expression) → declares_sort state d ≡ true → entries after c ≡ Some (Builds d qs place fields) → entries state c ≡ Some (Builds d qs place fields)
+  pub built : (d c : List ℕ) (qs : List (List ℕ)) (place : ℕ) (fields : List Expression) → declares_sort state d ≡ true →
+      entries after c ≡ Some (Builds d qs place fields) → entries state c ≡ Some (Builds d qs place fields)
 
 -- What lines leave: a state that fits the tables then, and the assertions that were there.
 pub record Reach (enums : Enums) (state : State) (ls : List Line) (u : Tables) : Type 0 where
@@ -234,9 +249,9 @@ pub record Reach (enums : Enums) (state : State) (ls : List Line) (u : Tables) :
   pub same_assertions : after.last.assertions ≡ state.last.assertions
 
 -- Lines that were written from tables s, and left the tables u, can be obeyed wherever s fits.
-abbrev pub Steps : Enums → Tables → List Line → Tables → Type 0
-Steps enums s ls u = (state : State) → Fit enums s state → Reach enums state ls u
+abbrev pub AreObeyable : Enums → Tables → List Line → Tables → Type 0
+AreObeyable enums s ls u = (state : State) → Fit enums s state → Reach enums state ls u
 
 -- The lines of what was written can be obeyed wherever the tables before fit, and those after fit then.
-abbrev pub StepsOf : {A : Type 0} → Enums → Tables → Written A → Type 0
-StepsOf {A} enums s w = Steps enums s w.lines w.tables
+abbrev pub IsObeyable : {A : Type 0} → Enums → Tables → Written A → Type 0
+IsObeyable {A} enums s w = AreObeyable enums s w.lines w.tables

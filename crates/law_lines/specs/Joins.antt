@@ -9,7 +9,8 @@ use Rattle.law_lines.specs.Line.{Line, spelled_lines}
 
 -- what is written in place of an expression is its text alone
 abbrev pub TextsReplaceExpressions : Type 0
-TextsReplaceExpressions = (e : Expression) (es : List Expression) → spelled (group (e ∷ es)) ≡ spelled (group (name (spelled e) ∷ map (λ x. name (spelled x)) es))
+TextsReplaceExpressions =
+    (e : Expression) (es : List Expression) → spelled (group (e ∷ es)) ≡ spelled (group (name (spelled e) ∷ map (λ x. name (spelled x)) es))
 
 -- lines one after the other have their bytes one after the other
 abbrev pub LinesJoin : Type 0

@@ -1,7 +1,8 @@
 -- The lines of a script, and their bytes.
 use Rattle.std.specs.Prelude.{ℕ, map, List, []}
 use Rattle.std.specs.List.{flat_map}
-use Rattle.law_texts.specs.LineTexts.{comment_text, bare_constructor_text, constructor_text, declare_datatype_text, declare_const_text, declare_fun_text, define_fun_text, assert_text, push_text, pop_text}
+use Rattle.law_texts.specs.LineTexts.{comment_text, bare_constructor_text, constructor_text, declare_datatype_text, declare_const_text}
+use Rattle.law_texts.specs.LineTexts.{declare_fun_text, define_fun_text, assert_text, push_text, pop_text}
 use Rattle.law_texts.specs.Reading.{Expression}
 use Rattle.law_lines.specs.Spelling.{spelled}
 

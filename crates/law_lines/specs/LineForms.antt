@@ -3,7 +3,10 @@
 use Rattle.std.specs.Prelude.{ℕ, suc, ◌-◌, ◌^◌, codes, List, [], ◌∷◌, ◌++◌, Option, Some, None}
 use Rattle.law_texts.specs.Quoting.{quoted_id}
 use Rattle.law_numbers.specs.BitVectors.{bits_of}
-use Rattle.law_terms.specs.Plain.{ExtensionKind, IpAddrKind, DecimalKind, DatetimeKind, DurationKind, ExtensionOp, DatetimeOfBitVecOp, DatetimeValOp, DecimalValOp, DurationOfBitVecOp, DurationValOp, IpAddrV4Op, IpAddrV6Op, IpIsV4Op, IpPrefixV4Op, IpPrefixV6Op, PatternPart, PlainOp, EqOp, ExtOp, StringLikeOp, ZeroExtendOp, PlainExtension, DecimalOf, Ipv4Of, Ipv6Of, DatetimeOf, DurationOf}
+use Rattle.law_terms.specs.Plain.{ExtensionKind, IpAddrKind, DecimalKind, DatetimeKind, DurationKind, ExtensionOp, DatetimeOfBitVecOp}
+use Rattle.law_terms.specs.Plain.{DatetimeValOp, DecimalValOp, DurationOfBitVecOp, DurationValOp, IpAddrV4Op, IpAddrV6Op, IpIsV4Op}
+use Rattle.law_terms.specs.Plain.{IpPrefixV4Op, IpPrefixV6Op, PatternPart, PlainOp, EqOp, ExtOp, StringLikeOp, ZeroExtendOp, PlainExtension}
+use Rattle.law_terms.specs.Plain.{DecimalOf, Ipv4Of, Ipv6Of, DatetimeOf, DurationOf}
 use Rattle.law_texts.specs.Reading.{Expression, Leaf}
 use Rattle.law_texts.specs.Lexicon.{Number}
 use Rattle.law_scripts.specs.Meanings.{as_sort, indexed_name}
@@ -39,12 +42,14 @@ abbrev pub entity_lines : (members : Option (List (List ℕ))) → (type sort : 
 entity_lines None type sort =
     Comment type ∷ DeclareDatatype sort [] (entity_constructors None sort) ∷ []
 entity_lines (Some members) type sort =
-    Comment (type ++ (codes "::[" ++ (comma_separated members ++ codes "]"))) ∷ DeclareDatatype sort [] (entity_constructors (Some members) sort) ∷ []
+    Comment (type ++ (codes "::[" ++ (comma_separated members ++ codes "]")))
+    ∷ DeclareDatatype sort [] (entity_constructors (Some members) sort) ∷ []
 
 -- a record type: its attributes in a comment, and its datatype
 abbrev pub record_lines : (attributes : List (List ℕ)) → (sort : List ℕ) → List Expression → List Line
 record_lines attributes sort sorts =
-    Comment (codes "{" ++ (comma_separated attributes ++ codes "}")) ∷ DeclareDatatype sort [] (Fielded sort (attribute_selectors sort 0 sorts) ∷ []) ∷ []
+    Comment (codes "{" ++ (comma_separated attributes ++ codes "}"))
+    ∷ DeclareDatatype sort [] (Fielded sort (attribute_selectors sort 0 sorts) ∷ []) ∷ []
 
 -- the constructors of an extension type's datatype, with their selectors
 abbrev pub kind_constructors : ExtensionKind → List Constructor

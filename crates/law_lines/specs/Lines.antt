@@ -1,6 +1,10 @@
 -- The lines that stand for terms, and the names that they leave.
 use Rattle.std.specs.Prelude.{ℕ, Bool, true, false, codes, length, map, List, [], ◌∷◌, ◌++◌, Option, Some, None}
-use Rattle.law_terms.specs.Plain.{ExtensionKind, PlainType, OptionType, BitVecType, BoolType, EntityType, ExtensionType, StringType, RecordType, SetType, AttributeTypes, no_attributes, attribute, PlainFunction, PlainOp, BvnegoOp, RecordGetOp, UufOp, PlainLiteral, BitVecLiteral, BoolLiteral, EntityLiteral, ExtensionLiteral, StringLiteral, PlainTerm, Application, NoneTerm, LiteralTerm, RecordTerm, SetTerm, SomeTerm, VariableTerm, PlainTerms, no_terms, one_term, PlainFields, no_fields, one_field, terms}
+use Rattle.law_terms.specs.Plain.{ExtensionKind, PlainType, OptionType, BitVecType, BoolType, EntityType, ExtensionType, StringType}
+use Rattle.law_terms.specs.Plain.{RecordType, SetType, AttributeTypes, no_attributes, attribute, PlainFunction, PlainOp, BvnegoOp}
+use Rattle.law_terms.specs.Plain.{RecordGetOp, UufOp, PlainLiteral, BitVecLiteral, BoolLiteral, EntityLiteral, ExtensionLiteral}
+use Rattle.law_terms.specs.Plain.{StringLiteral, PlainTerm, Application, NoneTerm, LiteralTerm, RecordTerm, SetTerm, SomeTerm, VariableTerm}
+use Rattle.law_terms.specs.Plain.{PlainTerms, no_terms, one_term, PlainFields, no_fields, one_field, terms}
 pub use Rattle.law_terms.specs.TypeValues.{Enums, members_of}
 use Rattle.law_terms.specs.Types.{type_of, literal_type}
 use Rattle.law_terms.specs.Parts.{attribute_names}
@@ -8,8 +12,11 @@ use Rattle.law_texts.specs.Reading.{Expression}
 use Rattle.law_scripts.specs.Script.{name}
 use Rattle.law_scripts.specs.Sorts.{bool_sort, string_sort, bit_sort, option_sort, set_sort}
 pub use Rattle.law_scripts.specs.CommandLines.{bits}
-use Rattle.law_lines.specs.LineForms.{entity_lines, record_lines, kind_lines, function_heading, function_declaration, variable_lines, some_body, none_body, set_body, record_body, entity_body, extension_body, operator_head, application_body, least_body}
-use Rattle.law_lines.specs.EntryNames.{attribute_name, place_of, kind_name, stated_term_name, stated_function_name, stated_entity_name, stated_record_name, enum_member}
+use Rattle.law_lines.specs.LineForms.{entity_lines, record_lines, kind_lines, function_heading, function_declaration, variable_lines}
+use Rattle.law_lines.specs.LineForms.{some_body, none_body, set_body, record_body, entity_body, extension_body, operator_head}
+use Rattle.law_lines.specs.LineForms.{application_body, least_body}
+use Rattle.law_lines.specs.EntryNames.{attribute_name, place_of, kind_name, stated_term_name, stated_function_name, stated_entity_name}
+use Rattle.law_lines.specs.EntryNames.{stated_record_name, enum_member}
 use Rattle.law_lines.specs.TermTexts.{bool_name, bool_text, string_text}
 use Rattle.law_lines.specs.NameTables.{Tables, no_names, name_of_term, name_of_type, name_of_function, text_of_name}
 use Rattle.law_lines.specs.Line.{Constructor, Bare, Fielded, Line, DeclareDatatype, DefineFun, Assert, Push, Pop}
@@ -186,7 +193,8 @@ application_rendering BvnegoOp ts type = negation_rendering ts type
 application_rendering op ts type = AsApplication
 
 -- The application's own line, once its sort is written; `arguments` writes what stands for its arguments.
-abbrev pub define_application : Enums → Rendering → PlainOp → PlainTerms → PlainType → (arguments : Tables → Written (List Expression)) → (sort : Expression) → Tables → Written Expression
+abbrev pub define_application : Enums → Rendering → PlainOp → PlainTerms → PlainType → (arguments : Tables → Written (List Expression)) →
+    (sort : Expression) → Tables → Written Expression
 define_application enums AsApplication op ts type arguments sort s =
     arguments s >>= λ es u. encode_head enums op ts u >>= λ head v.
     define (Application op ts type) sort (application_body head op es) v

@@ -25,7 +25,8 @@ TermsAreMade = (enums : Enums) (t : PlainTerm) (s : Tables) → text_of (encode_
 
 -- the texts that were made for terms are those that the tables give for them then
 abbrev pub TermListsAreMade : Type 0
-TermListsAreMade = (enums : Enums) (ts : PlainTerms) (s : Tables) → texts_of (encode_terms enums ts s).tables ts ≡ (encode_terms enums ts s).made
+TermListsAreMade =
+    (enums : Enums) (ts : PlainTerms) (s : Tables) → texts_of (encode_terms enums ts s).tables ts ≡ (encode_terms enums ts s).made
 
 -- Where names stay, texts stay.
 abbrev pub TextsStay : Type 0

@@ -15,7 +15,7 @@ use Rattle.law_lines.specs.Rows.{in_engineering}
 use Rattle.law_lines.specs.Entries.{TypeHasEntries, TypePartsHaveEntries, term_lines, type_lines, function_lines}
 use Rattle.law_lines.specs.Command.{commands_of, commands, is_written, is_written_line}
 use Rattle.law_lines.specs.Encodable.{IsEncodableType, IsEncodable, AreEncodable}
-use Rattle.law_lines.specs.Fit.{Fit, StepsOf, EachLine, LineIsDeclared, PartsHaveEntries}
+use Rattle.law_lines.specs.Fit.{Fit, IsObeyable, EachLine, LineIsDeclared, PartsHaveEntries}
 
 -- an expression that is spelled is read as it was
 abbrev pub ExpressionsWrite : Type 0
@@ -27,15 +27,16 @@ LinesAreLines = (l : Line) → is_written_line l ≡ true → IsLine (spelled_li
 
 -- lines that are spelled are whole lines that hold their commands
 abbrev pub LinesHold : Type 0
-LinesHold = (ls : List Line) → list_all is_written_line ls ≡ true → Holds (spelled_lines ls) (commands ls) × HasWholeLines (spelled_lines ls)
+LinesHold =
+    (ls : List Line) → list_all is_written_line ls ≡ true → Holds (spelled_lines ls) (commands ls) × HasWholeLines (spelled_lines ls)
 
 -- the lines of a type can be obeyed wherever tables and state fit, and they fit then
 abbrev pub TypesStep : Type 0
-TypesStep = (enums : Enums) (t : PlainType) (s : Tables) → IsEncodableType enums t → StepsOf enums s (encode_type enums t s)
+TypesStep = (enums : Enums) (t : PlainType) (s : Tables) → IsEncodableType enums t → IsObeyable enums s (encode_type enums t s)
 
 -- the lines of a term can be obeyed wherever tables and state fit, and they fit then
 abbrev pub TermsStep : Type 0
-TermsStep = (enums : Enums) (t : PlainTerm) (s : Tables) → IsEncodable enums t → StepsOf enums s (encode_term enums t s)
+TermsStep = (enums : Enums) (t : PlainTerm) (s : Tables) → IsEncodable enums t → IsObeyable enums s (encode_term enums t s)
 
 -- Where tables and a state fit, the state declares what the lines of a term's entry say.
 abbrev pub TermsAreDeclared : Type 0
@@ -49,7 +50,8 @@ TypesAreDeclared = (enums : Enums) (s : Tables) (state : State) (t : PlainType) 
 
 -- Where tables and a state fit, the state declares what the lines of a function's entry say.
 abbrev pub FunctionsAreDeclared : Type 0
-FunctionsAreDeclared = (enums : Enums) (s : Tables) (state : State) (f : PlainFunction) (n : List ℕ) → Fit enums s state → name_of_function s f ≡ Some n
+FunctionsAreDeclared =
+    (enums : Enums) (s : Tables) (state : State) (f : PlainFunction) (n : List ℕ) → Fit enums s state → name_of_function s f ≡ Some n
     → EachLine (LineIsDeclared state) (function_lines s f n) × TypeHasEntries s f.argument × TypeHasEntries s f.output
 
 -- The premise is met by a pattern on an attribute of what a function gives for a variable.

@@ -1,4 +1,6 @@
-ghost use Rattle.law_lines.specs.TableGrowth.{FunctionNamesDiffer, FunctionsGrow, NamesStay, TermListsGrow, TermNamesDiffer, TermsGrow, TypeNamesDiffer, TypesGrow};
+ghost use Rattle.law_lines.specs.TableGrowth.{FunctionNamesDiffer, FunctionsGrow, NamesStay};
+ghost use Rattle.law_lines.specs.TableGrowth.{TermListsGrow, TermNamesDiffer, TermsGrow};
+ghost use Rattle.law_lines.specs.TableGrowth.{TypeNamesDiffer, TypesGrow};
 
 /// Writing adds entries behind those that are there, each with the name of its place, and takes no name back.
 pub fn tables_grow()

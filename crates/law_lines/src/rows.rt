@@ -1,6 +1,8 @@
 ghost use Rattle.law_lines.specs.Every.{EveryOperator};
 ghost use Rattle.law_lines.specs.Hostile.{HostileTexts};
-ghost use Rattle.law_lines.specs.Rows.{Condition, EmptyRecord, EnumMember, HostileFunction, HostileVariable, Levels, Negation, NoTerm, RecordOfOne, Repeated, Shifted, TrueTerm, TwoOfOneId};
+ghost use Rattle.law_lines.specs.Rows.{Condition, EmptyRecord, EnumMember, HostileFunction};
+ghost use Rattle.law_lines.specs.Rows.{HostileVariable, Levels, Negation, NoTerm};
+ghost use Rattle.law_lines.specs.Rows.{RecordOfOne, Repeated, Shifted, TrueTerm, TwoOfOneId};
 ghost use Rattle.law_lines.specs.Scripts.{ConditionIsEncodable};
 
 /// What is written for a few terms.

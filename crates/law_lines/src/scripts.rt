@@ -1,4 +1,6 @@
-ghost use Rattle.law_lines.specs.Scripts.{ExpressionsWrite, FunctionsAreDeclared, LinesAreLines, LinesHold, TermsAreDeclared, TermsStep, TypesAreDeclared, TypesStep};
+ghost use Rattle.law_lines.specs.Scripts.{ExpressionsWrite, FunctionsAreDeclared, LinesAreLines};
+ghost use Rattle.law_lines.specs.Scripts.{LinesHold, TermsAreDeclared, TermsStep};
+ghost use Rattle.law_lines.specs.Scripts.{TypesAreDeclared, TypesStep};
 
 /// What is spelled is read as it was.
 pub fn what_is_spelled_is_read()

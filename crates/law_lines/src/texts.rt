@@ -1,5 +1,7 @@
 ghost use Rattle.law_lines.specs.Joins.{CallsJoin, LinesJoin, TextsReplaceExpressions};
-ghost use Rattle.law_lines.specs.Made.{FunctionsAreMade, WrittenTypesHaveEntries, SortsStay, TermListsAreMade, TermsAreMade, TextsStay, TypesAreMade};
+ghost use Rattle.law_lines.specs.Made.{FunctionsAreMade, WrittenTypesHaveEntries, SortsStay};
+ghost use Rattle.law_lines.specs.Made.{TermListsAreMade, TermsAreMade, TextsStay};
+ghost use Rattle.law_lines.specs.Made.{TypesAreMade};
 
 /// Texts stand for expressions, and calls one after the other write their lines so.
 pub fn texts_and_lines_join()

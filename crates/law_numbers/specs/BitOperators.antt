@@ -1,7 +1,8 @@
 -- The operators of two bitvectors of one width, in three classes. A table has what there is to say of each: its name, what it
 -- computes of the width and the two numbers (BitVectors), and its place in the order of operators.
 use Rattle.std.specs.Prelude.{ℕ, Bool, codes, List, [], ◌∷◌}
-use Rattle.law_numbers.specs.BitVectors.{bvadd, bvlshr, bvmul, bvsdiv, bvshl, bvsmod, bvsrem, bvsub, bvudiv, bvurem, bvsle, bvslt, bvule, bvult, bvsaddo, bvsmulo, bvssubo}
+use Rattle.law_numbers.specs.BitVectors.{bvadd, bvlshr, bvmul, bvsdiv, bvshl, bvsmod, bvsrem, bvsub, bvudiv, bvurem, bvsle, bvslt, bvule}
+use Rattle.law_numbers.specs.BitVectors.{bvult, bvsaddo, bvsmulo, bvssubo}
 
 -- From bits to bits (theory FixedSizeBitVectors and logic QF_BV). Left out are the bitwise operators, `bvashr`, `bvcomp`, rotations,
 -- `repeat` and `sign_extend`.

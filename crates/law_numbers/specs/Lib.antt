@@ -1,8 +1,8 @@
 pub mod BitOperators
 pub mod BitVectors
-pub mod Examples
 pub mod Extensions
 pub mod Laws
 pub mod Longs
+pub mod Rows
 pub mod Shifts
 pub mod Widths

@@ -1,6 +1,7 @@
 //! Laws of the operators on bitvectors, proved with no code.
-ghost use Rattle.law_numbers.specs.Examples.{BitVectorRows};
-ghost use Rattle.law_numbers.specs.Laws.{SignedHasItsBits, BitsAreTakenIntoRange, DivisionRoundsTowardZero, ModulusHasDivisorsSign};
+ghost use Rattle.law_numbers.specs.Rows.{BitVectorRows};
+ghost use Rattle.law_numbers.specs.Laws.{SignedHasItsBits, BitsAreTakenIntoRange};
+ghost use Rattle.law_numbers.specs.Laws.{DivisionRoundsTowardZero, ModulusHasDivisorsSign};
 
 /// Operators on bitvectors at chosen numbers.
 pub fn bit_vector_rows()

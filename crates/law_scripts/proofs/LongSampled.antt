@@ -5,7 +5,7 @@ use Rattle.law_texts.specs.Lexicon.{Number, Text}
 use Rattle.law_texts.specs.Reading.{Leaf}
 use Rattle.law_scripts.specs.Script.{DeclareConst, DeclareFun, DefineFun, Assert, group, name, start}
 use Rattle.law_scripts.specs.Written.{option_lines, option_command}
-use Rattle.law_scripts.specs.LongSample.{LongSampleIsScript}
+use Rattle.law_scripts.specs.LongRows.{LongSampleIsScript}
 use Rattle.law_scripts.proofs.Lines.{brackets_write, names_write, numerals_write, strings_write, commands_are_lines}
 use Rattle.law_scripts.proofs.First.{option_is_line}
 use Rattle.law_scripts.proofs.Going.{part, goes, comment_goes, begins}

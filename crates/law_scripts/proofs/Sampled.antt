@@ -15,7 +15,7 @@ use Rattle.law_scripts.specs.ScriptOrder.{same}
 use Rattle.law_scripts.specs.Value.{ScriptInterpretation, IsScriptInterpretation, IsModel, expression_value, is_entry_given, is_selector_given, applied_selectors}
 use Rattle.law_scripts.specs.Written.{is_name, option_lines, option_command, IsLine, ReadsAs}
 use Rattle.law_scripts.specs.CommandLines.{AreSorted, SortedScript}
-use Rattle.law_scripts.specs.Samples.{SampleIsScript, EnumSampleIsScript, RecordSampleIsScript, LevelSampleIsScript, SortedSamples, gone_sample, body_sample, UseBeforeDeclarationIsNone, TwiceDeclaredIsNone, BuiltInDeclaredIsNone, EscapesDecode, OperatorsGive, SelectorsSampled}
+use Rattle.law_scripts.specs.Rows.{SampleIsScript, EnumSampleIsScript, RecordSampleIsScript, LevelSampleIsScript, SortedSamples, gone_sample, body_sample, UseBeforeDeclarationIsNone, TwiceDeclaredIsNone, BuiltInDeclaredIsNone, EscapesDecode, OperatorsGive, SelectorsSampled}
 use Rattle.law_scripts.proofs.Commands.{one_list_of_commands}
 use Rattle.law_scripts.proofs.Lines.{lines_add, comments_add, names_write, comments_are_lines}
 use Rattle.law_scripts.proofs.First.{declare_const_line, define_fun_line, assert_line, applied_text, option_is_line}

@@ -9,7 +9,7 @@ use Rattle.law_scripts.specs.Script.{Constructor, constructor, Constant, Builds,
 use Rattle.law_scripts.specs.Sorts.{entries}
 use Rattle.law_scripts.specs.Value.{ScriptInterpretation, IsScriptInterpretation, IsModel, expression_value, is_entry_given, is_selector_given, applied_selectors}
 use Rattle.law_scripts.specs.Written.{IsLine, ReadsAs}
-use Rattle.law_scripts.specs.SelectorSamples.{PairSampleIsScript, EitherIsClosed, OpenSelectorRows, the_pair}
+use Rattle.law_scripts.specs.SelectorRows.{PairSampleIsScript, EitherIsClosed, OpenSelectorRows, the_pair}
 use Rattle.law_scripts.proofs.Lines.{names_write, strings_write, commands_are_lines}
 use Rattle.law_scripts.proofs.First.{declare_const_line, assert_line, applied_text}
 use Rattle.law_scripts.proofs.Going.{part, goes, begins}

@@ -4,7 +4,9 @@ use Rattle.law_scripts.specs.ScriptValues.{BitsOf}
 use Rattle.law_texts.specs.Lexicon.{Number}
 use Rattle.law_texts.specs.Reading.{Expression, Leaf}
 use Rattle.law_scripts.specs.Numerals.{numbered, numeral}
-use Rattle.law_scripts.specs.Script.{Command, Constructor, DeclareDatatype, DeclareFun, SetLogic, SetOption, CheckSat, GetModel, Reset, Exit, Push, Pop, DefineFun, Assert, constructor, group, name, start, State, Script, HasWholeLines, obey, step}
+use Rattle.law_scripts.specs.Script.{Command, Constructor, DeclareDatatype, DeclareFun, SetLogic, SetOption, CheckSat, GetModel, Reset}
+use Rattle.law_scripts.specs.Script.{Exit, Push, Pop, DefineFun, Assert, constructor, group, name, start, State, Script, HasWholeLines}
+use Rattle.law_scripts.specs.Script.{obey, step}
 use Rattle.law_numbers.specs.Widths.{are_bits}
 use Rattle.law_scripts.specs.Sorts.{Entries, bit_sort, bool_sort, expression_sort}
 use Rattle.law_scripts.specs.Value.{Meaning, evaluate}
@@ -52,7 +54,9 @@ BitSortsWrite = (width : ℕ) → ReadsAs (codes "(_ BitVec " ++ (numeral width 
 
 -- A literal of bits has its number as its value, whatever is declared, where that is a number of the width.
 abbrev pub BitsHaveValues : Type 0
-BitsHaveValues = (here : Entries) (env : Meaning) (width number : ℕ) → are_bits width number ≡ true → evaluate here env (bits width number) ≡ Some (BitsOf width number)
+BitsHaveValues =
+    (here : Entries) (env : Meaning) (width number : ℕ) → are_bits width number ≡ true →
+    evaluate here env (bits width number) ≡ Some (BitsOf width number)
 
 -- ---- lines
 
@@ -79,11 +83,14 @@ constructor_lines (c ∷ cs) end = below_each (c ∷ cs) end
 -- The line `(declare-datatype d (C ..))` is read as that command, for a datatype without parameters.
 abbrev pub DatatypeLine : Type 0
 DatatypeLine = (d : List ℕ) (cs : List ConstructorPart) → IsName d → AreConstructors cs
-    → IsLine (codes "(declare-datatype " ++ (d ++ (codes " (" ++ constructor_lines cs (codes "))\n")))) (DeclareDatatype d [] (map (λ c. c.built) cs) ∷ [])
+    → IsLine (codes "(declare-datatype " ++ (d ++ (codes " (" ++ constructor_lines cs (codes "))\n"))))
+    (DeclareDatatype d [] (map (λ c. c.built) cs) ∷ [])
 
 -- `(c (s S) ..)`; behind a gap where there is no selector, `(c )`
 abbrev pub SelectorsWrite : Type 0
-SelectorsWrite = (c : Constructor) (ps : List Part) (gap : List ℕ) → IsName c.name → AreWritten ps → IsTrue (is_gap gap) → map (λ p. p.expr) ps ≡ map (λ s. group (name s.0 ∷ s.1 ∷ [])) c.selectors
+SelectorsWrite =
+    (c : Constructor) (ps : List Part) (gap : List ℕ) → IsName c.name → AreWritten ps → IsTrue (is_gap gap) →
+    map (λ p. p.expr) ps ≡ map (λ s. group (name s.0 ∷ s.1 ∷ [])) c.selectors
     → ReadsAs (codes "(" ++ (c.name ++ spaced_parts ps (gap ++ codes ")"))) (constructor c)
 
 -- The line `(declare-fun f (A) S)` is read as that command.
@@ -97,16 +104,22 @@ SetLogicLine = (l : List ℕ) → IsName l → IsLine (codes "(set-logic " ++ l 
 
 -- The line `(set-option :o v)` is read as that command.
 abbrev pub SetOptionLine : Type 0
-SetOptionLine = (o v : List ℕ) (e : Expression) → IsName (codes ":" ++ o) → ReadsAs v e → IsLine (codes "(set-option " ++ (codes ":" ++ o) ++ codes " " ++ v ++ codes ")\n") (SetOption o e ∷ [])
+SetOptionLine =
+    (o v : List ℕ) (e : Expression) → IsName (codes ":" ++ o) → ReadsAs v e →
+    IsLine (codes "(set-option " ++ (codes ":" ++ o) ++ codes " " ++ v ++ codes ")\n") (SetOption o e ∷ [])
 
 -- The lines of the commands that have no operand, and those of `(push 1)` and `(pop 1)`, are read as these commands.
 abbrev pub PlainLines : Type 0
-PlainLines = IsLine (codes "(check-sat)\n") (CheckSat ∷ []) × IsLine (codes "(get-model)\n") (GetModel ∷ []) × IsLine (codes "(reset)\n") (Reset ∷ [])
+PlainLines =
+    IsLine (codes "(check-sat)\n") (CheckSat ∷ []) × IsLine (codes "(get-model)\n") (GetModel ∷ [])
+    × IsLine (codes "(reset)\n") (Reset ∷ [])
     × IsLine (codes "(exit)\n") (Exit ∷ []) × IsLine (codes "(push 1)\n") (Push ∷ []) × IsLine (codes "(pop 1)\n") (Pop ∷ [])
 
 -- a line at the end of an open script, whose command is obeyed, leaves an open script
 abbrev pub CommandsExtend : Type 0
-CommandsExtend = (text line : List ℕ) (c : Command) (s t : State) → IsOpenScript text s → IsLine line (c ∷ []) → obey c s ≡ Some t → IsTrue (not t.ended) → IsOpenScript (text ++ line) t
+CommandsExtend =
+    (text line : List ℕ) (c : Command) (s t : State) → IsOpenScript text s → IsLine line (c ∷ []) → obey c s ≡ Some t →
+    IsTrue (not t.ended) → IsOpenScript (text ++ line) t
 
 -- ---- well-sorted scripts
 
@@ -137,8 +150,11 @@ pub record SortedScript (bytes : List ℕ) (state : State) : Type 0 where
 
 -- A line behind a well-sorted script with whole lines, whose command is well sorted and obeyed, leaves a well-sorted script.
 abbrev pub SortedLinesAdd : Type 0
-SortedLinesAdd = (text line : List ℕ) (c : Command) (s t : State) → HasWholeLines text → SortedScript text s → IsLine line (c ∷ []) → step c s ≡ Some t → IsSortedCommand s c → SortedScript (text ++ line) t
+SortedLinesAdd =
+    (text line : List ℕ) (c : Command) (s t : State) → HasWholeLines text → SortedScript text s → IsLine line (c ∷ []) → step c s ≡ Some t →
+    IsSortedCommand s c → SortedScript (text ++ line) t
 
 -- A comment behind a well-sorted script with whole lines leaves it well sorted, and in the same state.
 abbrev pub SortedCommentsAdd : Type 0
-SortedCommentsAdd = (text line : List ℕ) (s : State) → HasWholeLines text → SortedScript text s → IsLine line [] → SortedScript (text ++ line) s
+SortedCommentsAdd =
+    (text line : List ℕ) (s : State) → HasWholeLines text → SortedScript text s → IsLine line [] → SortedScript (text ++ line) s

@@ -1,15 +1,19 @@
 -- What declared names and operators give where they are applied, and what a datatype leaves.
-use Rattle.std.specs.Prelude.{◌≡◌, ℕ, suc, Bool, true, not, ◌&&◌, ◌||◌, ◌==◌, codes, bytes_eq, length, map, List, [], ◌∷◌, ◌++◌, Option, Some}
+use Rattle.std.specs.Prelude.{◌≡◌, ℕ, suc, Bool, true, not, ◌&&◌, ◌||◌, ◌==◌, codes, bytes_eq, length, map, List, [], ◌∷◌, ◌++◌, Option}
+use Rattle.std.specs.Prelude.{Some}
 use Rattle.std.specs.List.{list_all, AllByRecursion}
 use Rattle.law_terms.specs.Plain.{PatternPart, PlainOp, StringLikeOp, ZeroExtendOp}
 use Rattle.law_scripts.specs.ScriptValues.{ScriptValue, TruthOf, ConstructorOf, SetOf, ScriptValues, no_script_values}
 use Rattle.law_texts.specs.Reading.{Expression, Leaf, expressions}
 use Rattle.law_texts.specs.Lexicon.{Number}
 use Rattle.law_scripts.specs.ScriptOperators.{script_name, theory_operators}
-use Rattle.law_scripts.specs.Script.{Command, DeclareDatatype, Reset, Push, Pop, Constructor, Entry, Function, Builds, Selects, State, group, name, built_in_names, is_in, is_reserved, is_taken, is_new_datatype, is_sort, has_sort, names_of, pattern, operator_of, with_sort, obey, step}
+use Rattle.law_scripts.specs.Script.{Command, DeclareDatatype, Reset, Push, Pop, Constructor, Entry, Function, Builds, Selects, State}
+use Rattle.law_scripts.specs.Script.{group, name, built_in_names, is_in, is_reserved, is_taken, is_new_datatype, is_sort, has_sort}
+use Rattle.law_scripts.specs.Script.{names_of, pattern, operator_of, with_sort, obey, step}
 use Rattle.law_texts.specs.Options.{◌>>=◌}
 use Rattle.law_scripts.specs.Sorts.{entries, entry_sort, each_there, sorts_in, expression_sort, operator_sort, insert_sort}
-use Rattle.law_scripts.specs.Value.{ScriptInterpretation, expression_value, meaning, evaluate_each, operator_value, script_values, in_table, selected, inserted}
+use Rattle.law_scripts.specs.Value.{ScriptInterpretation, expression_value, meaning, evaluate_each, operator_value, script_values, in_table}
+use Rattle.law_scripts.specs.Value.{selected, inserted}
 
 -- neither built in nor reserved
 abbrev pub is_own : List ℕ → Bool
@@ -31,11 +35,14 @@ pub record OperatorsAreFoundBySpelling : Type 0 where
 -- `(op x ..)`
 abbrev pub OperatorsApply : Type 0
 OperatorsApply = (j : ScriptInterpretation) (s : State) (f : List ℕ) (op : PlainOp) (es : List Expression) → operator_of f ≡ Some op
-    → (expression_value j s (group (name f ∷ es)) ≡ (argument_values j s es >>= operator_value op)) × (expression_sort s (group (name f ∷ es)) ≡ (argument_sorts s es >>= operator_sort op))
+    → (expression_value j s (group (name f ∷ es)) ≡ (argument_values j s es >>= operator_value op))
+    × (expression_sort s (group (name f ∷ es)) ≡ (argument_sorts s es >>= operator_sort op))
 
 -- `(c x ..)` for a constructor: its value has the arguments' values, where there are as many as it has fields
 abbrev pub ConstructorsApply : Type 0
-ConstructorsApply = (j : ScriptInterpretation) (s : State) (c d : List ℕ) (ps : List (List ℕ)) (place : ℕ) (fields : List Expression) (e : Expression) (es : List Expression) (vs : List ScriptValue) → is_own c ≡ true
+ConstructorsApply =
+    (j : ScriptInterpretation) (s : State) (c d : List ℕ) (ps : List (List ℕ)) (place : ℕ) (fields : List Expression) (e : Expression)
+    (es : List Expression) (vs : List ScriptValue) → is_own c ≡ true
     → entries s c ≡ Some (Builds d ps place fields) → argument_values j s (e ∷ es) ≡ Some vs → (length vs == length fields) ≡ true
     → expression_value j s (group (name c ∷ e ∷ es)) ≡ Some (ConstructorOf place c (script_values vs))
 
@@ -47,22 +54,28 @@ BareConstructorsHaveValues = (j : ScriptInterpretation) (s : State) (c d : List 
 -- `(f x)` for a function: what its table in the interpretation gives for the argument's value
 abbrev pub FunctionsApply : Type 0
 FunctionsApply = (j : ScriptInterpretation) (s : State) (f : List ℕ) (argument sort e : Expression) (v : ScriptValue) → is_own f ≡ true
-    → entries s f ≡ Some (Function argument sort) → expression_value j s e ≡ Some v → expression_value j s (group (name f ∷ e ∷ [])) ≡ Some (in_table (j.functions f) v)
+    → entries s f ≡ Some (Function argument sort) → expression_value j s e ≡ Some v →
+    expression_value j s (group (name f ∷ e ∷ [])) ≡ Some (in_table (j.functions f) v)
 
 -- `(s x)` for a selector: what it selects of the argument's value
 abbrev pub SelectorsApply : Type 0
-SelectorsApply = (j : ScriptInterpretation) (s : State) (f d : List ℕ) (ps : List (List ℕ)) (c : List ℕ) (place : ℕ) (field e : Expression) (v : ScriptValue) → is_own f ≡ true
-    → entries s f ≡ Some (Selects d ps c place field) → expression_value j s e ≡ Some v → expression_value j s (group (name f ∷ e ∷ [])) ≡ selected j f d ps c place (expression_sort s e) v
+SelectorsApply =
+    (j : ScriptInterpretation) (s : State) (f d : List ℕ) (ps : List (List ℕ)) (c : List ℕ) (place : ℕ) (field e : Expression)
+    (v : ScriptValue) → is_own f ≡ true
+    → entries s f ≡ Some (Selects d ps c place field) → expression_value j s e ≡ Some v →
+    expression_value j s (group (name f ∷ e ∷ [])) ≡ selected j f d ps c place (expression_sort s e) v
 
 -- the sort of an application
 abbrev pub ApplicationsHaveSorts : Type 0
-ApplicationsHaveSorts = (s : State) (f : List ℕ) (x : Entry) (e : Expression) (es : List Expression) → is_own f ≡ true → entries s f ≡ Some x
+ApplicationsHaveSorts =
+    (s : State) (f : List ℕ) (x : Entry) (e : Expression) (es : List Expression) → is_own f ≡ true → entries s f ≡ Some x
     → expression_sort s (group (name f ∷ e ∷ es)) ≡ (argument_sorts s (e ∷ es) >>= entry_sort x)
 
 -- ---- what a datatype leaves
 
 -- names, with the selectors of a constructor in front of them, from a place on, the newest first
-abbrev pub selectors_named : List ℕ → List (List ℕ) → List ℕ → ℕ → List (List ℕ × Expression) → List (List ℕ × Entry) → List (List ℕ × Entry)
+abbrev pub selectors_named : List ℕ → List (List ℕ) → List ℕ → ℕ → List (List ℕ × Expression) → List (List ℕ × Entry) →
+    List (List ℕ × Entry)
 selectors_named d ps c place [] names = names
 selectors_named d ps c place (x ∷ xs) names = selectors_named d ps c (suc place) xs ((x.0, Selects d ps c place x.1) ∷ names)
 
@@ -70,7 +83,8 @@ selectors_named d ps c place (x ∷ xs) names = selectors_named d ps c (suc plac
 abbrev pub constructors_named : List ℕ → List (List ℕ) → ℕ → List Constructor → List (List ℕ × Entry) → List (List ℕ × Entry)
 constructors_named d ps place [] names = names
 constructors_named d ps place (c ∷ cs) names =
-    constructors_named d ps (suc place) cs (selectors_named d ps c.name 0 c.selectors ((c.name, Builds d ps place (map (λ x. x.1) c.selectors)) ∷ names))
+    constructors_named d ps (suc place) cs
+    (selectors_named d ps c.name 0 c.selectors ((c.name, Builds d ps place (map (λ x. x.1) c.selectors)) ∷ names))
 
 -- the state with these names in place of those of its last level
 abbrev pub with_names : List (List ℕ × Entry) → State → State
@@ -123,24 +137,32 @@ as_sort c sort = group (name (codes "as") ∷ name c ∷ sort ∷ [])
 -- `((_ zero_extend k) x)`
 abbrev pub ExtensionsApply : Type 0
 ExtensionsApply = (j : ScriptInterpretation) (s : State) (k : ℕ) (e : Expression)
-    → (expression_value j s (indexed_by (codes "zero_extend") (Leaf (Number k)) e) ≡ (expression_value j s e >>= λ v. operator_value (ZeroExtendOp k) (v ∷ [])))
-    × (expression_sort s (indexed_by (codes "zero_extend") (Leaf (Number k)) e) ≡ (expression_sort s e >>= λ t. operator_sort (ZeroExtendOp k) (t ∷ [])))
+    → (expression_value j s (indexed_by (codes "zero_extend") (Leaf (Number k)) e)
+    ≡ (expression_value j s e >>= λ v. operator_value (ZeroExtendOp k) (v ∷ [])))
+    × (expression_sort s (indexed_by (codes "zero_extend") (Leaf (Number k)) e)
+    ≡ (expression_sort s e >>= λ t. operator_sort (ZeroExtendOp k) (t ∷ [])))
 
 -- `((_ is c) x)`
 abbrev pub TestsApply : Type 0
-TestsApply = (j : ScriptInterpretation) (s : State) (c d : List ℕ) (ps : List (List ℕ)) (place : ℕ) (fields : List Expression) (e : Expression) (p : ℕ) (n : List ℕ) (vs : ScriptValues)
-    → entries s c ≡ Some (Builds d ps place fields) → expression_value j s e ≡ Some (ConstructorOf p n vs) → expression_value j s (indexed_by (codes "is") (name c) e) ≡ Some (TruthOf (bytes_eq c n))
+TestsApply =
+    (j : ScriptInterpretation) (s : State) (c d : List ℕ) (ps : List (List ℕ)) (place : ℕ) (fields : List Expression) (e : Expression)
+    (p : ℕ) (n : List ℕ) (vs : ScriptValues)
+    → entries s c ≡ Some (Builds d ps place fields) → expression_value j s e ≡ Some (ConstructorOf p n vs) →
+    expression_value j s (indexed_by (codes "is") (name c) e) ≡ Some (TruthOf (bytes_eq c n))
 
 -- `(str.in_re x R)`
 abbrev pub MatchesApply : Type 0
 MatchesApply = (j : ScriptInterpretation) (s : State) (e r : Expression) (p : List PatternPart) → pattern r ≡ Some p
-    → (expression_value j s (group (name (codes "str.in_re") ∷ e ∷ r ∷ [])) ≡ (expression_value j s e >>= λ v. operator_value (StringLikeOp p) (v ∷ [])))
-    × (expression_sort s (group (name (codes "str.in_re") ∷ e ∷ r ∷ [])) ≡ (expression_sort s e >>= λ t. operator_sort (StringLikeOp p) (t ∷ [])))
+    → (expression_value j s (group (name (codes "str.in_re") ∷ e ∷ r ∷ []))
+    ≡ (expression_value j s e >>= λ v. operator_value (StringLikeOp p) (v ∷ [])))
+    × (expression_sort s (group (name (codes "str.in_re") ∷ e ∷ r ∷ []))
+    ≡ (expression_sort s e >>= λ t. operator_sort (StringLikeOp p) (t ∷ [])))
 
 -- `(as none S)` has the value `none`, where a constructor of that name without fields is declared
 abbrev pub NonesHaveValues : Type 0
 NonesHaveValues = (j : ScriptInterpretation) (s : State) (d : List ℕ) (ps : List (List ℕ)) (place : ℕ) (sort : Expression)
-    → entries s (codes "none") ≡ Some (Builds d ps place []) → expression_value j s (as_sort (codes "none") sort) ≡ Some (ConstructorOf place (codes "none") no_script_values)
+    → entries s (codes "none") ≡ Some (Builds d ps place []) →
+    expression_value j s (as_sort (codes "none") sort) ≡ Some (ConstructorOf place (codes "none") no_script_values)
 
 -- `(as set.empty S)` is the empty set, and `(set.insert x .. s)` puts the elements into the set
 abbrev pub SetsHaveValues : Type 0

@@ -1,5 +1,6 @@
 -- Commands, what they declare, and what a script comes to.
-use Rattle.std.specs.Prelude.{◌≡◌, ℕ, suc, Bool, true, false, not, ◌&&◌, ◌||◌, ◌==◌, IsTrue, if◌then◌else◌, codes, bytes_eq, take, drop, length, map, List, [], ◌∷◌, ◌++◌, Option, Some, None}
+use Rattle.std.specs.Prelude.{◌≡◌, ℕ, suc, Bool, true, false, not, ◌&&◌, ◌||◌, ◌==◌, IsTrue, if◌then◌else◌, codes, bytes_eq, take, drop}
+use Rattle.std.specs.Prelude.{length, map, List, [], ◌∷◌, ◌++◌, Option, Some, None}
 use Rattle.std.specs.List.{list_all, list_any}
 use Rattle.std.specs.Map.{lookup}
 use Rattle.std.specs.Option.{option_or}
@@ -184,10 +185,14 @@ abbrev pub reserved_words : List (List ℕ)
 reserved_words =
     codes "_" ∷ codes "as" ∷ codes "!" ∷ codes "BINARY" ∷ codes "DECIMAL" ∷ codes "HEXADECIMAL" ∷ codes "NUMERAL" ∷ codes "STRING"
     ∷ codes "exists" ∷ codes "forall" ∷ codes "lambda" ∷ codes "let" ∷ codes "match" ∷ codes "par"
-    ∷ codes "assert" ∷ codes "check-sat" ∷ codes "check-sat-assuming" ∷ codes "declare-const" ∷ codes "declare-datatype" ∷ codes "declare-datatypes"
-    ∷ codes "declare-fun" ∷ codes "declare-sort" ∷ codes "declare-sort-parameter" ∷ codes "define-const" ∷ codes "define-fun" ∷ codes "define-fun-rec"
-    ∷ codes "define-funs-rec" ∷ codes "define-sort" ∷ codes "echo" ∷ codes "exit" ∷ codes "get-assertions" ∷ codes "get-assignment" ∷ codes "get-info"
-    ∷ codes "get-model" ∷ codes "get-option" ∷ codes "get-proof" ∷ codes "get-unsat-assumptions" ∷ codes "get-unsat-core" ∷ codes "get-value" ∷ codes "pop"
+    ∷ codes "assert" ∷ codes "check-sat" ∷ codes "check-sat-assuming" ∷ codes "declare-const" ∷ codes "declare-datatype"
+    ∷ codes "declare-datatypes"
+    ∷ codes "declare-fun" ∷ codes "declare-sort" ∷ codes "declare-sort-parameter" ∷ codes "define-const" ∷ codes "define-fun"
+    ∷ codes "define-fun-rec"
+    ∷ codes "define-funs-rec" ∷ codes "define-sort" ∷ codes "echo" ∷ codes "exit" ∷ codes "get-assertions" ∷ codes "get-assignment"
+    ∷ codes "get-info"
+    ∷ codes "get-model" ∷ codes "get-option" ∷ codes "get-proof" ∷ codes "get-unsat-assumptions" ∷ codes "get-unsat-core"
+    ∷ codes "get-value" ∷ codes "pop"
     ∷ codes "push" ∷ codes "reset" ∷ codes "reset-assertions" ∷ codes "set-info" ∷ codes "set-logic" ∷ codes "set-option" ∷ []
 
 -- a keyword begins with a colon
@@ -255,7 +260,8 @@ abbrev mutual
   -- a sort of which each name is there, by `has` with the number of its arguments (SMT-LIB 2.7, chapter 3, "Sorts")
   pub is_sort : (List ℕ → ℕ → Bool) → Expression → Bool
   is_sort has (Leaf (Name n)) = has n 0
-  is_sort has (Node (Cons (Leaf (Name n)) (Cons e es))) = (bytes_eq n (codes "_") && is_bit_sort (Cons e es)) || (has n (count (Cons e es)) && are_sorts has (Cons e es))
+  is_sort has (Node (Cons (Leaf (Name n)) (Cons e es))) =
+      (bytes_eq n (codes "_") && is_bit_sort (Cons e es)) || (has n (count (Cons e es)) && are_sorts has (Cons e es))
   is_sort has e = false
 
   -- expressions each of which is a sort of names that are there
@@ -272,8 +278,10 @@ character_in cs = None
 
 -- `(str.to_re "c")` or `(re.* re.allchar)`
 abbrev pub pattern_part : Expression → Option (List PatternPart)
-pattern_part (Node (Cons (Leaf (Name f)) (Cons (Leaf (Text text)) Nil))) = if bytes_eq f (codes "str.to_re") then character_in text else None
-pattern_part (Node (Cons (Leaf (Name f)) (Cons (Leaf (Name g)) Nil))) = if bytes_eq f (codes "re.*") && bytes_eq g (codes "re.allchar") then Some (Wildcard ∷ []) else None
+pattern_part (Node (Cons (Leaf (Name f)) (Cons (Leaf (Text text)) Nil))) =
+    if bytes_eq f (codes "str.to_re") then character_in text else None
+pattern_part (Node (Cons (Leaf (Name f)) (Cons (Leaf (Name g)) Nil))) =
+    if bytes_eq f (codes "re.*") && bytes_eq g (codes "re.allchar") then Some (Wildcard ∷ []) else None
 pattern_part e = None
 
 -- the parts that these expressions write, one behind the other
@@ -288,7 +296,8 @@ is_empty_pattern e = false
 
 -- `(re.++ p q ..)`, with at least two parts
 abbrev pub joined_parts : Expression → Option (List PatternPart)
-joined_parts (Node (Cons (Leaf (Name f)) (Cons e (Cons d es)))) = if bytes_eq f (codes "re.++") then pattern_parts (Cons e (Cons d es)) else None
+joined_parts (Node (Cons (Leaf (Name f)) (Cons e (Cons d es)))) =
+    if bytes_eq f (codes "re.++") then pattern_parts (Cons e (Cons d es)) else None
 joined_parts e = None
 
 -- The pattern that an expression writes (theory UnicodeStrings): `(str.to_re "")`, one part, or `(re.++ p q ..)`. Our profile has no
@@ -352,7 +361,8 @@ shape head Nil = Unformed
 shape (Leaf (Name f)) (Cons e es) =
     if bytes_eq f (codes "_") then bit_literal (Cons e es)
     else (if bytes_eq f (codes "as") then qualified (Cons e es)
-    else (if bytes_eq f (codes "str.in_re") then matched (Cons e es) else (if bytes_eq f (codes "set.insert") then insertion es else Applied f)))
+    else
+    (if bytes_eq f (codes "str.in_re") then matched (Cons e es) else (if bytes_eq f (codes "set.insert") then insertion es else Applied f)))
 shape (Node (Cons (Leaf (Name f)) fs)) (Cons e es) = if bytes_eq f (codes "_") then indexed fs else Unformed
 shape e es = Unformed
 
@@ -426,7 +436,8 @@ declare_selectors d ps c place (x ∷ xs) s =
 abbrev pub declare_constructors : List ℕ → List (List ℕ) → ℕ → List Constructor → State → Option State
 declare_constructors d ps place [] s = Some s
 declare_constructors d ps place (c ∷ cs) s =
-    declare c.name (Builds d ps place (map (λ x. x.1) c.selectors)) s >>= λ t. declare_selectors d ps c.name 0 c.selectors t >>= declare_constructors d ps (suc place) cs
+    declare c.name (Builds d ps place (map (λ x. x.1) c.selectors)) s >>=
+    λ t. declare_selectors d ps c.name 0 c.selectors t >>= declare_constructors d ps (suc place) cs
 
 -- the last level goes with all that it has; level 0 stays
 abbrev pub without_level : State → List Level → Option State

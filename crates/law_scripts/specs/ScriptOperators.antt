@@ -2,7 +2,8 @@
 use Rattle.std.specs.Prelude.{ℕ, codes, List, [], ◌∷◌, ◌++◌, map}
 use Rattle.law_numbers.specs.BitOperators.{bits_operators, test_operators, overflow_operators}
 use Rattle.law_terms.specs.Names.{op_name}
-use Rattle.law_terms.specs.Plain.{PlainOp, AndOp, BvnegOp, EqOp, IteOp, NotOp, OptionGetOp, OrOp, SetInterOp, SetMemberOp, SetSubsetOp, StringLikeOp, BitsOp, TestOp, OverflowOp}
+use Rattle.law_terms.specs.Plain.{PlainOp, AndOp, BvnegOp, EqOp, IteOp, NotOp, OptionGetOp, OrOp, SetInterOp, SetMemberOp, SetSubsetOp}
+use Rattle.law_terms.specs.Plain.{StringLikeOp, BitsOp, TestOp, OverflowOp}
 
 -- The name by which a script calls an operator: its own, but for `=` (Core), `str.in_re` (UnicodeStrings) and the
 -- selector of the datatype Option.
@@ -16,4 +17,5 @@ script_name op = op_name op
 abbrev pub theory_operators : List PlainOp
 theory_operators =
     NotOp ∷ AndOp ∷ OrOp ∷ EqOp ∷ IteOp ∷ BvnegOp
-    ∷ map BitsOp bits_operators ++ (map TestOp test_operators ++ (map OverflowOp overflow_operators ++ SetMemberOp ∷ SetSubsetOp ∷ SetInterOp ∷ []))
+    ∷ map BitsOp bits_operators
+    ++ (map TestOp test_operators ++ (map OverflowOp overflow_operators ++ SetMemberOp ∷ SetSubsetOp ∷ SetInterOp ∷ []))

@@ -5,7 +5,8 @@ use Rattle.std.specs.Ordering.{nat_cmp, bool_cmp, ordering_then, match_ordering,
 use Rattle.std.specs.declared.cmp.Ordering.{Ordering}
 use Rattle.std.specs.declared.cmp.Ordering.TheVariants.{Less, Equal, Greater}
 use Rattle.law_terms.specs.ValueOrder.{text_cmp}
-use Rattle.law_scripts.specs.ScriptValues.{ScriptValue, TruthOf, BitsOf, TextOf, ConstructorOf, SetOf, ScriptValues, no_script_values, one_script_value}
+use Rattle.law_scripts.specs.ScriptValues.{ScriptValue, TruthOf, BitsOf, TextOf, ConstructorOf, SetOf, ScriptValues, no_script_values}
+use Rattle.law_scripts.specs.ScriptValues.{one_script_value}
 
 -- the place of a value's kind
 abbrev pub kind : ScriptValue → ℕ
@@ -41,7 +42,8 @@ same a b = is_eq (order a b)
 -- a set with one more element, at its place in the order; nothing changes where the set has it
 abbrev pub put : ScriptValue → ScriptValues → ScriptValues
 put x no_script_values = one_script_value x no_script_values
-put x (one_script_value y ys) = match_ordering (order x y) (one_script_value x (one_script_value y ys)) (one_script_value y ys) (one_script_value y (put x ys))
+put x (one_script_value y ys) =
+    match_ordering (order x y) (one_script_value x (one_script_value y ys)) (one_script_value y ys) (one_script_value y (put x ys))
 
 -- the value is an element of the set (cvc5's finite sets)
 abbrev pub is_member : ScriptValue → ScriptValues → Bool
@@ -80,4 +82,6 @@ OrderIsTotal = IsTotalOrder order
 
 -- An element that is put into a set leaves a set, with that element besides.
 abbrev pub PutsKeepSets : Type 0
-PutsKeepSets = (x : ScriptValue) (xs : ScriptValues) → (ascends xs ≡ true → ascends (put x xs) ≡ true) × ((z : ScriptValue) → is_member z (put x xs) ≡ (same z x || is_member z xs))
+PutsKeepSets =
+    (x : ScriptValue) (xs : ScriptValues) →
+    (ascends xs ≡ true → ascends (put x xs) ≡ true) × ((z : ScriptValue) → is_member z (put x xs) ≡ (same z x || is_member z xs))

@@ -1,12 +1,16 @@
 -- The sorts of expressions, and of values. A sort is an expression.
-use Rattle.std.specs.Prelude.{ℕ, ◌+◌, Bool, true, false, ◌&&◌, ◌==◌, nat_le, if◌then◌else◌, codes, bytes_eq, length, map, List, [], ◌∷◌, Option, Some, None, is_some}
+use Rattle.std.specs.Prelude.{ℕ, ◌+◌, Bool, true, false, ◌&&◌, ◌==◌, nat_le, if◌then◌else◌, codes, bytes_eq, length, map, List, [], ◌∷◌}
+use Rattle.std.specs.Prelude.{Option, Some, None, is_some}
 use Rattle.std.specs.List.{list_all}
-use Rattle.law_terms.specs.Plain.{PlainOp, AndOp, BvnegOp, EqOp, IteOp, NotOp, OrOp, SetInterOp, SetMemberOp, SetSubsetOp, StringLikeOp, ZeroExtendOp}
+use Rattle.law_terms.specs.Plain.{PlainOp, AndOp, BvnegOp, EqOp, IteOp, NotOp, OrOp, SetInterOp, SetMemberOp, SetSubsetOp, StringLikeOp}
+use Rattle.law_terms.specs.Plain.{ZeroExtendOp}
 use Rattle.law_terms.specs.TypeValues.{is_code_point}
-use Rattle.law_scripts.specs.ScriptValues.{ScriptValue, TruthOf, BitsOf, TextOf, ConstructorOf, SetOf, ScriptValues, no_script_values, one_script_value}
+use Rattle.law_scripts.specs.ScriptValues.{ScriptValue, TruthOf, BitsOf, TextOf, ConstructorOf, SetOf, ScriptValues, no_script_values}
+use Rattle.law_scripts.specs.ScriptValues.{one_script_value}
 use Rattle.law_texts.specs.Lexicon.{Atom, Bits, Number, Text, Name}
 use Rattle.law_texts.specs.Reading.{Expression, Leaf, Node, Expressions, Nil, Cons, expressions}
-use Rattle.law_scripts.specs.Script.{name, group, Entry, Constant, Function, Defined, Builds, Selects, Shape, BitLiteral, Qualified, Applied, Extended, Tested, Matched, Unformed, shape, look_up, operator_of, is_in, names_of, State}
+use Rattle.law_scripts.specs.Script.{name, group, Entry, Constant, Function, Defined, Builds, Selects, Shape, BitLiteral, Qualified}
+use Rattle.law_scripts.specs.Script.{Applied, Extended, Tested, Matched, Unformed, shape, look_up, operator_of, is_in, names_of, State}
 use Rattle.law_texts.specs.Options.{◌>>=◌}
 use Rattle.law_numbers.specs.Widths.{are_bits}
 use Rattle.law_scripts.specs.Arithmetic.{bit_function, bit_test}
@@ -63,7 +67,8 @@ datatype_sort d (s ∷ ss) = group (name d ∷ s ∷ ss)
 
 -- the width of a sort of bits, if the sort is one
 abbrev pub sort_width : Expression → Option ℕ
-sort_width (Node (Cons (Leaf (Name u)) (Cons (Leaf (Name b)) (Cons (Leaf (Number width)) Nil)))) = if bytes_eq u (codes "_") && bytes_eq b (codes "BitVec") then Some width else None
+sort_width (Node (Cons (Leaf (Name u)) (Cons (Leaf (Name b)) (Cons (Leaf (Number width)) Nil)))) =
+    if bytes_eq u (codes "_") && bytes_eq b (codes "BitVec") then Some width else None
 sort_width e = None
 
 -- the sort of the elements of a sort of sets, if the sort is one
@@ -102,7 +107,8 @@ abbrev mutual
 
 -- the field sorts of a constructor, or of a selector, at a sort of its datatype
 abbrev pub fields_at : List ℕ → List (List ℕ) → List Expression → Expression → Option (List Expression)
-fields_at d ps fields sort = arguments_of d sort >>= λ es. if length es == length ps then Some (map (instance (paired ps es)) fields) else None
+fields_at d ps fields sort =
+    arguments_of d sort >>= λ es. if length es == length ps then Some (map (instance (paired ps es)) fields) else None
 
 -- the table in which the parameter n is the sort s, unless it is another one already
 abbrev pub bound : List ℕ → Expression → List (List ℕ × Expression) → Option Expression → Option (List (List ℕ × Expression))
@@ -112,7 +118,8 @@ bound n s table (Some t) = if same_sort s t then Some table else None
 abbrev mutual
   -- what each parameter has to be for a field's sort to be the sort given, besides what the table has
   pub match_sort : List (List ℕ) → Expression → Expression → List (List ℕ × Expression) → Option (List (List ℕ × Expression))
-  match_sort ps (Leaf (Name n)) s table = if is_in n ps then bound n s table (look_up n table) else (if same_sort (name n) s then Some table else None)
+  match_sort ps (Leaf (Name n)) s table =
+      if is_in n ps then bound n s table (look_up n table) else (if same_sort (name n) s then Some table else None)
   match_sort ps (Leaf a) s table = if same_sort (Leaf a) s then Some table else None
   match_sort ps (Node es) (Leaf b) table = None
   match_sort ps (Node es) (Node fs) table = match_sorts ps es fs table
@@ -144,7 +151,9 @@ two_widths v w = v >>= λ m. w >>= λ n. if m == n then Some m else None
 
 -- an operator on two numbers of one width gives bits of that width, or a Boolean (theory FixedSizeBitVectors)
 abbrev pub bits_sort : Bool → Bool → List Expression → Option Expression
-bits_sort result_bits result_truth (s ∷ t ∷ []) = two_widths (sort_width s) (sort_width t) >>= λ w. if result_bits then Some (bit_sort w) else (if result_truth then Some bool_sort else None)
+bits_sort result_bits result_truth (s ∷ t ∷ []) =
+    two_widths (sort_width s) (sort_width t) >>=
+    λ w. if result_bits then Some (bit_sort w) else (if result_truth then Some bool_sort else None)
 bits_sort result_bits result_truth ss = None
 
 -- this sort where the test holds, and else none
@@ -223,10 +232,12 @@ abbrev pub entry_sort : Entry → List Expression → Option Expression
 entry_sort (Constant sort) ss = if_sort (length ss == 0) sort
 entry_sort (Defined sort body) ss = if_sort (length ss == 0) sort
 entry_sort (Function argument sort) ss = if_sort (same_sorts (expressions ss) (expressions (argument ∷ []))) sort
-entry_sort (Builds d ps place fields) ss = match_sorts ps (expressions fields) (expressions ss) [] >>= λ table. all_bound ps table >>= λ es. Some (datatype_sort d es)
+entry_sort (Builds d ps place fields) ss =
+    match_sorts ps (expressions fields) (expressions ss) [] >>= λ table. all_bound ps table >>= λ es. Some (datatype_sort d es)
 entry_sort (Selects d ps c place field) [] = None
 entry_sort (Selects d ps c place field) (s ∷ t ∷ ss) = None
-entry_sort (Selects d ps c place field) (s ∷ []) = arguments_of d s >>= λ es. if_sort (length es == length ps) (instance (paired ps es) field)
+entry_sort (Selects d ps c place field) (s ∷ []) =
+    arguments_of d s >>= λ es. if_sort (length es == length ps) (instance (paired ps es) field)
 
 -- `(as none S)`: a constructor of S's datatype without arguments
 abbrev pub is_constant_at : Option Entry → Expression → Bool
@@ -249,11 +260,15 @@ applied_sort x f ss = sort_by_operator (operator_of f) f ss (x >>= λ y. entry_s
 
 -- the sort of a name alone: `true`, `false`, or by what it is declared as
 abbrev pub named_sort : Option Entry → List ℕ → Option Expression
-named_sort x n = if bytes_eq n (codes "true") then Some bool_sort else (if bytes_eq n (codes "false") then Some bool_sort else (x >>= λ y. entry_sort y []))
+named_sort x n =
+    if bytes_eq n (codes "true") then Some bool_sort
+    else (if bytes_eq n (codes "false") then Some bool_sort else (x >>= λ y. entry_sort y []))
 
 -- the sort of `(as set.empty S)` and `(as none S)`, which is S where S is one of sets, or of the datatype of `none`
 abbrev pub qualified_sort : Option Entry → List ℕ → Expression → Option Expression
-qualified_sort x c sort = if bytes_eq c (codes "set.empty") then (element_of sort >>= λ e. Some sort) else if_sort (bytes_eq c (codes "none") && is_constant_at x sort) sort
+qualified_sort x c sort =
+    if bytes_eq c (codes "set.empty") then (element_of sort >>= λ e. Some sort)
+    else if_sort (bytes_eq c (codes "none") && is_constant_at x sort) sort
 
 -- all of these, where each is there
 abbrev pub each_there : {A : Type 0} → List (Option A) → Option (List A)
@@ -306,8 +321,10 @@ abbrev mutual
   has_sort_in here sort (TruthOf b) = same_sort sort bool_sort
   has_sort_in here sort (BitsOf width number) = same_sort sort (bit_sort width) && are_bits width number
   has_sort_in here sort (TextOf text) = same_sort sort string_sort && list_all is_code_point text
-  has_sort_in here sort (ConstructorOf place c values) = elim (constructor_fields (here c) place sort) [ Some fields ↦ have_sorts_in here fields values | None ↦ false ]
-  has_sort_in here sort (SetOf values) = elim (element_of sort) [ Some element ↦ all_have_sort_in here element values && ascends values | None ↦ false ]
+  has_sort_in here sort (ConstructorOf place c values) =
+      elim (constructor_fields (here c) place sort) [ Some fields ↦ have_sorts_in here fields values | None ↦ false ]
+  has_sort_in here sort (SetOf values) =
+      elim (element_of sort) [ Some element ↦ all_have_sort_in here element values && ascends values | None ↦ false ]
 
   -- as many values as sorts, each of the sort at its place
   pub have_sorts_in : Entries → List Expression → ScriptValues → Bool

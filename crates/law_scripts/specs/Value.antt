@@ -1,7 +1,10 @@
 -- The values of expressions in a script.
-use Rattle.std.specs.Prelude.{◌≡◌, ℕ, zero, suc, ◌+◌, Bool, true, false, not, ◌&&◌, ◌||◌, ◌==◌, nat_le, if◌then◌else◌, codes, bytes_eq, length, List, [], ◌∷◌, ◌++◌, Option, Some, None, All, IsTrue}
-use Rattle.law_terms.specs.Plain.{PlainOp, AndOp, BvnegOp, EqOp, IteOp, NotOp, OrOp, SetInterOp, SetMemberOp, SetSubsetOp, StringLikeOp, ZeroExtendOp}
-use Rattle.law_scripts.specs.ScriptValues.{ScriptValue, TruthOf, BitsOf, TextOf, ConstructorOf, SetOf, ScriptValues, no_script_values, one_script_value}
+use Rattle.std.specs.Prelude.{◌≡◌, ℕ, zero, suc, ◌+◌, Bool, true, false, not, ◌&&◌, ◌||◌, ◌==◌, nat_le, if◌then◌else◌, codes, bytes_eq}
+use Rattle.std.specs.Prelude.{length, List, [], ◌∷◌, ◌++◌, Option, Some, None, All, IsTrue}
+use Rattle.law_terms.specs.Plain.{PlainOp, AndOp, BvnegOp, EqOp, IteOp, NotOp, OrOp, SetInterOp, SetMemberOp, SetSubsetOp, StringLikeOp}
+use Rattle.law_terms.specs.Plain.{ZeroExtendOp}
+use Rattle.law_scripts.specs.ScriptValues.{ScriptValue, TruthOf, BitsOf, TextOf, ConstructorOf, SetOf, ScriptValues, no_script_values}
+use Rattle.law_scripts.specs.ScriptValues.{one_script_value}
 use Rattle.law_texts.specs.Lexicon.{Text, Name}
 use Rattle.law_texts.specs.Reading.{Expression, Leaf, Node, Expressions, Nil, Cons}
 use Rattle.law_numbers.specs.BitVectors.{bvneg}
@@ -9,9 +12,12 @@ use Rattle.law_numbers.specs.Widths.{are_bits}
 use Rattle.law_scripts.specs.Arithmetic.{bit_function, bit_test}
 use Rattle.law_terms.specs.Patterns.{matches}
 use Rattle.law_scripts.specs.ScriptOrder.{same, put, is_member, is_subset, intersection}
-use Rattle.law_scripts.specs.Script.{DefineFun, DeclareConst, name, knows, is_in, Shape, BitLiteral, Qualified, Applied, Extended, Tested, Matched, Unformed, shape, Entry, Constant, Function, Defined, Builds, Selects, Reset, Pop, State, names_of, assertions_of, look_up, operator_of, step, Command}
+use Rattle.law_scripts.specs.Script.{DefineFun, DeclareConst, name, knows, is_in, Shape, BitLiteral, Qualified, Applied, Extended, Tested}
+use Rattle.law_scripts.specs.Script.{Matched, Unformed, shape, Entry, Constant, Function, Defined, Builds, Selects, Reset, Pop, State}
+use Rattle.law_scripts.specs.Script.{names_of, assertions_of, look_up, operator_of, step, Command}
 use Rattle.law_texts.specs.Options.{◌>>=◌}
-use Rattle.law_scripts.specs.Sorts.{Entries, entries, sort_in, expression_sort, arguments_of, each_there, first_there, instance, paired, has_sort_in}
+use Rattle.law_scripts.specs.Sorts.{Entries, entries, sort_in, expression_sort, arguments_of, each_there, first_there, instance, paired}
+use Rattle.law_scripts.specs.Sorts.{has_sort_in}
 
 -- ---- operators
 
@@ -179,8 +185,10 @@ other_value j n (Some TableOfSelector) (Some sort) v = Some (in_table (j.selecto
 other_value j n o sort v = None
 
 -- a selector of this datatype and constructor, at an argument of this sort
-abbrev pub selected : ScriptInterpretation → (selector datatype : List ℕ) → (parameters : List (List ℕ)) → (constructor : List ℕ) → (place : ℕ) → Option Expression → ScriptValue → Option ScriptValue
-selected j n d ps c place sort (ConstructorOf p e vs) = if bytes_eq c e then value_at place vs else other_value j n (open_selector n d ps) sort (ConstructorOf p e vs)
+abbrev pub selected : ScriptInterpretation → (selector datatype : List ℕ) → (parameters : List (List ℕ)) → (constructor : List ℕ) →
+    (place : ℕ) → Option Expression → ScriptValue → Option ScriptValue
+selected j n d ps c place sort (ConstructorOf p e vs) =
+    if bytes_eq c e then value_at place vs else other_value j n (open_selector n d ps) sort (ConstructorOf p e vs)
 selected j n d ps c place sort v = None
 
 -- Names, applied to arguments: the name, the first argument's sort, the arguments.
@@ -204,7 +212,8 @@ constant env n =
 
 -- the value of `(as set.empty S)` and `(as none S)`
 abbrev pub qualified_value : Meaning → List ℕ → Option ScriptValue
-qualified_value env c = if bytes_eq c (codes "set.empty") then Some (SetOf no_script_values) else (if bytes_eq c (codes "none") then env c None [] else None)
+qualified_value env c =
+    if bytes_eq c (codes "set.empty") then Some (SetOf no_script_values) else (if bytes_eq c (codes "none") then env c None [] else None)
 
 -- whether a value is of this constructor
 abbrev pub is_built : Option Entry → List ℕ → ScriptValue → Option ScriptValue
@@ -243,11 +252,13 @@ abbrev mutual
 
 -- What a declared name gives for arguments: a constant and a function by the interpretation, a defined name its body's value,
 -- a constructor the value that it builds of them, and a selector what it selects.
-abbrev pub entry_meaning : ScriptInterpretation → List ℕ → Option ScriptValue → Entry → Option Expression → List ScriptValue → Option ScriptValue
+abbrev pub entry_meaning : ScriptInterpretation → List ℕ → Option ScriptValue → Entry → Option Expression → List ScriptValue →
+    Option ScriptValue
 entry_meaning j n body (Constant sort) s vs = if_alone vs (Some (j.constants n))
 entry_meaning j n body (Defined sort e) s vs = if_alone vs body
 entry_meaning j n body (Function argument sort) s vs = of_one (λ v. Some (in_table (j.functions n) v)) vs
-entry_meaning j n body (Builds d ps place fields) s vs = if length vs == length fields then Some (ConstructorOf place n (script_values vs)) else None
+entry_meaning j n body (Builds d ps place fields) s vs =
+    if length vs == length fields then Some (ConstructorOf place n (script_values vs)) else None
 entry_meaning j n body (Selects d ps c place field) s vs = of_one (selected j n d ps c place s) vs
 
 -- the body of a defined name; any other name has none, and empty brackets stand for it
@@ -295,7 +306,8 @@ selection_if None x = []
 
 -- a name that stands for such a selector
 abbrev pub selection_of : List ℕ → Expression → Option Entry → List Selection
-selection_of f sort (Some (Selects d ps c place field)) = selection_if (open_selector f d ps) (record { selector = f; entry = Selects d ps c place field; sort = sort })
+selection_of f sort (Some (Selects d ps c place field)) =
+    selection_if (open_selector f d ps) (record { selector = f; entry = Selects d ps c place field; sort = sort })
 selection_of f sort x = []
 
 -- the selector that is left open, if this name, applied to an argument of this sort, is one
@@ -342,7 +354,8 @@ is_key x (p ∷ ps) = same x p.0 || is_key x ps
 -- keys and values of these sorts, no key twice
 abbrev pub are_pairs : Entries → Expression → Expression → List (ScriptValue × ScriptValue) → Bool
 are_pairs here argument sort [] = true
-are_pairs here argument sort (p ∷ ps) = has_sort_in here argument p.0 && has_sort_in here sort p.1 && not (is_key p.0 ps) && are_pairs here argument sort ps
+are_pairs here argument sort (p ∷ ps) =
+    has_sort_in here argument p.0 && has_sort_in here sort p.1 && not (is_key p.0 ps) && are_pairs here argument sort ps
 
 -- a table from values of one sort to values of another: keys and values of these sorts, no key twice, and such a default
 abbrev pub is_table : Entries → Expression → Expression → Table → Bool
@@ -366,13 +379,16 @@ are_others c (p ∷ ps) = is_other c p.0 && are_others c ps
 
 -- a value or a table is given for a selector that is left open
 abbrev pub is_open_given : ScriptInterpretation → Entries → List ℕ → Expression → Entry → Option OpenSelector → Bool
-is_open_given j here n sort (Selects d ps c place field) (Some ValueOfSort) = elim (arguments_of d sort) [ Some es ↦ has_sort_in here (instance (paired ps es) field) (j.options sort) | None ↦ true ]
-is_open_given j here n sort (Selects d ps c place field) (Some TableOfSelector) = is_table here sort field (j.selectors n) && are_others c (j.selectors n).pairs
+is_open_given j here n sort (Selects d ps c place field) (Some ValueOfSort) =
+    elim (arguments_of d sort) [ Some es ↦ has_sort_in here (instance (paired ps es) field) (j.options sort) | None ↦ true ]
+is_open_given j here n sort (Selects d ps c place field) (Some TableOfSelector) =
+    is_table here sort field (j.selectors n) && are_others c (j.selectors n).pairs
 is_open_given j here n sort x o = true
 
 -- a selector that is left open is given a value or a table of its sort
 abbrev pub is_selector_given : ScriptInterpretation → Entries → List ℕ → Expression → Entry → Bool
-is_selector_given j here n sort (Selects d ps c place field) = is_open_given j here n sort (Selects d ps c place field) (open_selector n d ps)
+is_selector_given j here n sort (Selects d ps c place field) =
+    is_open_given j here n sort (Selects d ps c place field) (open_selector n d ps)
 is_selector_given j here n sort x = true
 
 -- J gives each free name of the script a value or a table of its sort.
@@ -408,15 +424,21 @@ pub record AgreeFor (j k : ScriptInterpretation) (s : State) : Type 0 where
 
 -- What a command but `reset` and `(pop 1)` leaves has the values and the sorts of what was there before it.
 abbrev pub StepsKeepValues : Type 0
-StepsKeepValues = (j : ScriptInterpretation) (c : Command) (s t : State) (e : Expression) → (c ≡ Reset → ⊥) → (c ≡ Pop → ⊥) → step c s ≡ Some t → knows s e ≡ true
+StepsKeepValues =
+    (j : ScriptInterpretation) (c : Command) (s t : State) (e : Expression) → (c ≡ Reset → ⊥) → (c ≡ Pop → ⊥) → step c s ≡ Some t →
+    knows s e ≡ true
     → (knows t e ≡ true) × (expression_value j t e ≡ expression_value j s e) × (expression_sort t e ≡ expression_sort s e)
 
 -- A defined name has its body's value, a declared one the value that the interpretation gives it.
 abbrev pub NamesHaveValues : Type 0
 NamesHaveValues = (j : ScriptInterpretation) (n : List ℕ) (sort body : Expression) (s t : State) → s.ended ≡ false
-    → (step (DefineFun n sort body) s ≡ Some t → (knows t (name n) ≡ true) × (expression_value j t (name n) ≡ expression_value j s body) × (expression_sort t (name n) ≡ Some sort))
-    × (step (DeclareConst n sort) s ≡ Some t → (knows t (name n) ≡ true) × (expression_value j t (name n) ≡ Some (j.constants n)) × (expression_sort t (name n) ≡ Some sort))
+    → (step (DefineFun n sort body) s ≡ Some t →
+    (knows t (name n) ≡ true) × (expression_value j t (name n) ≡ expression_value j s body) × (expression_sort t (name n) ≡ Some sort))
+    × (step (DeclareConst n sort) s ≡ Some t →
+    (knows t (name n) ≡ true) × (expression_value j t (name n) ≡ Some (j.constants n)) × (expression_sort t (name n) ≡ Some sort))
 
 -- What a script's assertions are worth lies in its free names.
 abbrev pub FreeNamesDecide : Type 0
-FreeNamesDecide = (j k : ScriptInterpretation) (s : State) → AgreeFor j k s → All (λ e. expression_value j s e ≡ expression_value k s e) (assertions_of s) × (IsModel j s → IsModel k s)
+FreeNamesDecide =
+    (j k : ScriptInterpretation) (s : State) → AgreeFor j k s →
+    All (λ e. expression_value j s e ≡ expression_value k s e) (assertions_of s) × (IsModel j s → IsModel k s)

@@ -1,9 +1,12 @@
 -- Texts that write an expression, and lines.
 use Rattle.std.specs.Prelude.{◌≡◌, ℕ, Bool, true, false, not, ◌&&◌, ◌||◌, IsTrue, ◌==◌, codes, map, List, [], ◌∷◌, ◌++◌, Some}
 use Rattle.std.specs.List.{flat_map, list_all}
-use Rattle.law_texts.specs.Lexicon.{is_printable, quote_twice, decoded, some_all, is_digit, number_in, Text, Number, Piece, spell, tokens, each_longest, in_script, is_plain_symbol, is_symbol, is_line_end}
+use Rattle.law_texts.specs.Lexicon.{is_printable, quote_twice, decoded, some_all, is_digit, number_in, Text, Number, Piece, spell, tokens}
+use Rattle.law_texts.specs.Lexicon.{each_longest, in_script, is_plain_symbol, is_symbol, is_line_end}
 use Rattle.law_texts.specs.Reading.{Leaf, Expression, brackets}
-use Rattle.law_scripts.specs.Script.{Defined, is_taken, has_sort, is_sort, knows, with_name, with_assertion, Command, DeclareDatatype, DeclareConst, DefineFun, Assert, State, Script, Holds, HasWholeLines, IsWhole, group, name, stated, step}
+use Rattle.law_scripts.specs.Script.{Defined, is_taken, has_sort, is_sort, knows, with_name, with_assertion, Command, DeclareDatatype}
+use Rattle.law_scripts.specs.Script.{DeclareConst, DefineFun, Assert, State, Script, Holds, HasWholeLines, IsWhole, group, name, stated}
+use Rattle.law_scripts.specs.Script.{step}
 
 -- nothing, white space or a bracket
 abbrev pub is_apart : List ℕ → Bool
@@ -102,7 +105,9 @@ LinesAdd = (text line : List ℕ) (c : Command) (s t : State) → HasWholeLines 
 
 -- A comment behind a script with whole lines leaves what the script comes to.
 abbrev pub CommentsAdd : Type 0
-CommentsAdd = (text line : List ℕ) (s : State) → HasWholeLines text → Script text s → IsLine line [] → Script (text ++ line) s × HasWholeLines (text ++ line)
+CommentsAdd =
+    (text line : List ℕ) (s : State) → HasWholeLines text → Script text s → IsLine line [] →
+    Script (text ++ line) s × HasWholeLines (text ++ line)
 
 -- A text comes to at most one state.
 abbrev pub OneState : Type 0
@@ -130,7 +135,9 @@ AssertLine = (e : List ℕ) (x : Expression) → ReadsAs e x → IsLine (codes "
 
 -- The text `(f x)` is read as f applied to one argument.
 abbrev pub AppliedText : Type 0
-AppliedText = (f x : List ℕ) (e : Expression) → IsName f → ReadsAs x e → ReadsAs (codes "(" ++ f ++ codes " " ++ x ++ codes ")") (group (name f ∷ e ∷ []))
+AppliedText =
+    (f x : List ℕ) (e : Expression) → IsName f → ReadsAs x e →
+    ReadsAs (codes "(" ++ f ++ codes " " ++ x ++ codes ")") (group (name f ∷ e ∷ []))
 
 -- the first lines of each script, which declare the datatype of options
 abbrev pub option_lines : List ℕ
@@ -159,9 +166,11 @@ OpenScriptsAreWhole = (text : List ℕ) (s : State) → IsOpenScript text s → 
 
 -- A line `(define-fun n () S e)`, of a name that is not taken and of names that are there, leaves an open script with it.
 abbrev pub DefinitionsExtend : Type 0
-DefinitionsExtend = (text n sort body : List ℕ) (s : State) (x b : Expression) → IsOpenScript text s → IsName n → ReadsAs sort x → ReadsAs body b
+DefinitionsExtend =
+    (text n sort body : List ℕ) (s : State) (x b : Expression) → IsOpenScript text s → IsName n → ReadsAs sort x → ReadsAs body b
     → IsTrue (not (is_taken s n)) → IsTrue (is_sort (has_sort s) x) → IsTrue (knows s b)
-    → IsOpenScript (text ++ (codes "(define-fun " ++ n ++ codes " () " ++ sort ++ codes " " ++ body ++ codes ")\n")) (with_name n (Defined x b) s)
+    → IsOpenScript (text ++ (codes "(define-fun " ++ n ++ codes " () " ++ sort ++ codes " " ++ body ++ codes ")\n"))
+    (with_name n (Defined x b) s)
 
 -- A line `(assert e)` of names that are there leaves an open script with that assertion.
 abbrev pub AssertionsExtend : Type 0

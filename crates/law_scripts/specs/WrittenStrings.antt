@@ -31,7 +31,8 @@ part_expr Wildcard = group (name (codes "re.*") ∷ name (codes "re.allchar") �
 abbrev pub pattern_text : List PatternPart → List ℕ
 pattern_text [] = codes "(str.to_re \"\")"
 pattern_text (x ∷ []) = part_text x
-pattern_text (x ∷ y ∷ ps) = codes "(re.++" ++ spaced_parts (map (λ p. record { text = part_text p; expr = part_expr p }) (x ∷ y ∷ ps)) (codes ")")
+pattern_text (x ∷ y ∷ ps) =
+    codes "(re.++" ++ spaced_parts (map (λ p. record { text = part_text p; expr = part_expr p }) (x ∷ y ∷ ps)) (codes ")")
 
 -- the expression that is written of a pattern
 abbrev pub pattern_expr : List PatternPart → Expression
@@ -41,4 +42,6 @@ pattern_expr (x ∷ y ∷ ps) = group (name (codes "re.++") ∷ map part_expr (x
 
 -- What is written of a pattern is read as it.
 abbrev pub PatternsWrite : Type 0
-PatternsWrite = (ps : List PatternPart) → IsTrue (list_all is_pattern_part ps) → ReadsAs (pattern_text ps) (pattern_expr ps) × (pattern (pattern_expr ps) ≡ Some ps)
+PatternsWrite =
+    (ps : List PatternPart) → IsTrue (list_all is_pattern_part ps) →
+    ReadsAs (pattern_text ps) (pattern_expr ps) × (pattern (pattern_expr ps) ≡ Some ps)

@@ -1,4 +1,10 @@
-ghost use Rattle.law_scripts.specs.Meanings.{ApplicationsHaveSorts, ConstructorsApply, BareConstructorsHaveValues, DatatypesLeave, ExtensionsApply, FunctionsApply, MatchesApply, NonesHaveValues, OperatorsApply, OperatorsAreFoundBySpelling, PopsGiveBack, SelectorsApply, SetsHaveValues, StepsKeepLevels, TestsApply};
+ghost use Rattle.law_scripts.specs.Meanings.{ApplicationsHaveSorts, ConstructorsApply};
+ghost use Rattle.law_scripts.specs.Meanings.{BareConstructorsHaveValues, DatatypesLeave};
+ghost use Rattle.law_scripts.specs.Meanings.{ExtensionsApply, FunctionsApply, MatchesApply};
+ghost use Rattle.law_scripts.specs.Meanings.{NonesHaveValues, OperatorsApply};
+ghost use Rattle.law_scripts.specs.Meanings.{OperatorsAreFoundBySpelling, PopsGiveBack};
+ghost use Rattle.law_scripts.specs.Meanings.{SelectorsApply, SetsHaveValues, StepsKeepLevels};
+ghost use Rattle.law_scripts.specs.Meanings.{TestsApply};
 ghost use Rattle.law_scripts.specs.ScriptOrder.{OrderIsTotal, PutsKeepSets, SameIsEqual};
 ghost use Rattle.law_scripts.specs.Value.{FreeNamesDecide, NamesHaveValues, StepsKeepValues};
 

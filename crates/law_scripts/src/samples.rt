@@ -1,7 +1,12 @@
-ghost use Rattle.law_scripts.specs.LongSample.{LongSampleIsScript};
+ghost use Rattle.law_scripts.specs.LongRows.{LongSampleIsScript};
 ghost use Rattle.law_scripts.specs.NoScripts.{NoCommands, NoScripts, WholeTexts};
-ghost use Rattle.law_scripts.specs.SelectorSamples.{EitherIsClosed, OpenSelectorRows, PairSampleIsScript};
-ghost use Rattle.law_scripts.specs.Samples.{BuiltInDeclaredIsNone, EnumSampleIsScript, EscapesDecode, LevelSampleIsScript, OperatorsGive, RecordSampleIsScript, SampleIsScript, SelectorsSampled, SortedSamples, TwiceDeclaredIsNone, UseBeforeDeclarationIsNone};
+ghost use Rattle.law_scripts.specs.SelectorRows.{EitherIsClosed, OpenSelectorRows};
+ghost use Rattle.law_scripts.specs.SelectorRows.{PairSampleIsScript};
+ghost use Rattle.law_scripts.specs.Rows.{BuiltInDeclaredIsNone, EnumSampleIsScript, EscapesDecode};
+ghost use Rattle.law_scripts.specs.Rows.{LevelSampleIsScript, OperatorsGive};
+ghost use Rattle.law_scripts.specs.Rows.{RecordSampleIsScript, SampleIsScript, SelectorsSampled};
+ghost use Rattle.law_scripts.specs.Rows.{SortedSamples, TwiceDeclaredIsNone};
+ghost use Rattle.law_scripts.specs.Rows.{UseBeforeDeclarationIsNone};
 
 /// What is a script, and what is none.
 pub fn scripts_and_none()

@@ -1,8 +1,18 @@
-ghost use Rattle.law_scripts.specs.DeclarationLines.{ConstantsExtend, DatatypesDeclare, DatatypesExtend, FunctionsExtend};
+ghost use Rattle.law_scripts.specs.DeclarationLines.{ConstantsExtend, DatatypesDeclare};
+ghost use Rattle.law_scripts.specs.DeclarationLines.{DatatypesExtend, FunctionsExtend};
 ghost use Rattle.law_scripts.specs.Numerals.{NumberedNames, NumeralsArePrinted, NumeralsDiffer};
 ghost use Rattle.law_scripts.specs.WrittenStrings.{PatternsWrite, TextsWrite};
-ghost use Rattle.law_scripts.specs.CommandLines.{BitSortsWrite, BitsHaveValues, BitsWrite, CommandsExtend, DatatypeLine, DeclareFunLine, GroupsWrite, PlainLines, SelectorsWrite, SetLogicLine, SetOptionLine, SortedCommentsAdd, SortedLinesAdd};
-ghost use Rattle.law_scripts.specs.Written.{AppliedText, AssertLine, AssertionsExtend, BracketsWrite, CommandsAreLines, CommentsAdd, CommentsAreLines, CommentsExtend, DeclareConstLine, DefineFunLine, DefinitionsExtend, LinesAdd, NamesWrite, NumeralsWrite, OneState, OptionLines, OpenScriptsAreWhole, StringsWrite};
+ghost use Rattle.law_scripts.specs.CommandLines.{BitSortsWrite, BitsHaveValues, BitsWrite};
+ghost use Rattle.law_scripts.specs.CommandLines.{CommandsExtend, DatatypeLine, DeclareFunLine};
+ghost use Rattle.law_scripts.specs.CommandLines.{GroupsWrite, PlainLines, SelectorsWrite};
+ghost use Rattle.law_scripts.specs.CommandLines.{SetLogicLine, SetOptionLine, SortedCommentsAdd};
+ghost use Rattle.law_scripts.specs.CommandLines.{SortedLinesAdd};
+ghost use Rattle.law_scripts.specs.Written.{AppliedText, AssertLine, AssertionsExtend};
+ghost use Rattle.law_scripts.specs.Written.{BracketsWrite, CommandsAreLines, CommentsAdd};
+ghost use Rattle.law_scripts.specs.Written.{CommentsAreLines, CommentsExtend, DeclareConstLine};
+ghost use Rattle.law_scripts.specs.Written.{DefineFunLine, DefinitionsExtend, LinesAdd};
+ghost use Rattle.law_scripts.specs.Written.{NamesWrite, NumeralsWrite, OneState, OptionLines};
+ghost use Rattle.law_scripts.specs.Written.{OpenScriptsAreWhole, StringsWrite};
 
 /// A script comes to one state.
 pub fn one_state()

@@ -8,7 +8,7 @@ use Rattle.std.specs.Ordering.{is_eq}
 use Rattle.law_terms.specs.Interpretations.{GiveSameOp, GiveSame, Agree, IsGiven, IsGivenOp, IsGivenSelector, IsInterpretation, IsOfOtherFamily, IsSelectorTable, IsTable, restrict, function_eq, selector_eq, extension_op_place, empty_table, unused_value, variable_eq}
 use Rattle.law_terms.specs.Meaning.{AreTrue, meaning, meanings, field_meanings, term_value}
 use Rattle.law_terms.specs.Operators.{apply_extension, apply}
-use Rattle.law_terms.specs.Reached.{subterms, subterms_of_all, subterms_of_fields, reached_terms, reached_variables, reached_functions, reached_options, reached_selectors, variable_of, function_of, function_of_op, opened_of, opened_of_op, selector_of, selector_of_op, selector_of_extension}
+use Rattle.law_terms.specs.Reached.{subterms, subterms_of_all, subterms_of_fields, reached_terms, reached_variables, reached_functions, reached_options, reached_selectors, reached_variable, reached_function, function_of_op, opened_of, opened_of_op, selector_of, selector_of_op, selector_of_extension}
 use Rattle.law_terms.specs.Tables.{Interpretation, Table, value_at}
 use Rattle.law_terms.specs.Types.{extension_signature, type_eq}
 use Rattle.law_terms.specs.TypeValues.{Enums, IsValue}
@@ -137,18 +137,18 @@ module _ (ts : List PlainTerm) (I : Interpretation) where
   op_kept (ExtOp o) t h g k = selector_kept o k
   op_kept o t h g k = tt
 
-  kept : (u : PlainTerm) → IfSome (variable_of u) (λ x. list_any (variable_eq x) (reached_variables ts) ≡ true) → IfSome (function_of u) (λ f. list_any (function_eq f) (reached_functions ts) ≡ true) → IfSome (opened_of u) (λ t. list_any (type_eq t) (reached_options ts) ≡ true) → IfSome (selector_of u) (λ s. list_any (selector_eq s) (reached_selectors ts) ≡ true) → GiveSame I (restrict I ts) u
+  kept : (u : PlainTerm) → IfSome (reached_variable u) (λ x. list_any (variable_eq x) (reached_variables ts) ≡ true) → IfSome (reached_function u) (λ f. list_any (function_eq f) (reached_functions ts) ≡ true) → IfSome (opened_of u) (λ t. list_any (type_eq t) (reached_options ts) ≡ true) → IfSome (selector_of u) (λ s. list_any (selector_eq s) (reached_selectors ts) ≡ true) → GiveSame I (restrict I ts) u
   kept (VariableTerm id t) e h g k = sym (ap (λ b. cond b (I.variable id t) unused_value) e)
   kept (Application o us t) e h g k = op_kept o t h g k
   kept u e h g k = tt
 
-  all_kept : (us : List PlainTerm) → AllByRecursion (λ u. IfSome (variable_of u) (λ x. list_any (variable_eq x) (reached_variables ts) ≡ true)) us → AllByRecursion (λ u. IfSome (function_of u) (λ f. list_any (function_eq f) (reached_functions ts) ≡ true)) us → AllByRecursion (λ u. IfSome (opened_of u) (λ t. list_any (type_eq t) (reached_options ts) ≡ true)) us → AllByRecursion (λ u. IfSome (selector_of u) (λ s. list_any (selector_eq s) (reached_selectors ts) ≡ true)) us → AllByRecursion (GiveSame I (restrict I ts)) us
+  all_kept : (us : List PlainTerm) → AllByRecursion (λ u. IfSome (reached_variable u) (λ x. list_any (variable_eq x) (reached_variables ts) ≡ true)) us → AllByRecursion (λ u. IfSome (reached_function u) (λ f. list_any (function_eq f) (reached_functions ts) ≡ true)) us → AllByRecursion (λ u. IfSome (opened_of u) (λ t. list_any (type_eq t) (reached_options ts) ≡ true)) us → AllByRecursion (λ u. IfSome (selector_of u) (λ s. list_any (selector_eq s) (reached_selectors ts) ≡ true)) us → AllByRecursion (GiveSame I (restrict I ts)) us
   all_kept [] e h g k = tt
   all_kept (u ∷ us) e h g k = (kept u e.0 h.0 g.0 k.0, all_kept us e.1 h.1 g.1 k.1)
 
   pub restricted : Agree ts I (restrict I ts)
   restricted =
-      all_kept (reached_terms ts) (found variable_of variable_eq variable_itself (reached_terms ts)) (found function_of function_eq function_itself (reached_terms ts)) (found opened_of type_eq eq_itself (reached_terms ts)) (found selector_of selector_eq selector_itself (reached_terms ts))
+      all_kept (reached_terms ts) (found reached_variable variable_eq variable_itself (reached_terms ts)) (found reached_function function_eq function_itself (reached_terms ts)) (found opened_of type_eq eq_itself (reached_terms ts)) (found selector_of selector_eq selector_itself (reached_terms ts))
 
 -- ---- interpretations that give the same
 

@@ -26,6 +26,7 @@ use Rattle.law_terms.proofs.Soundness.{all-front, all-back}
 use Rattle.law_terms.proofs.TypeOrder.{eq_same}
 use Rattle.law_terms.specs.Plain.{PlainType, BoolType, RecordType, SetType, AttributeTypes, no_attributes, attribute, PlainExtension, PlainLiteral, BitVecLiteral, BoolLiteral, EntityLiteral, ExtensionLiteral, StringLiteral, PlainTerm, NoneTerm, LiteralTerm, RecordTerm, SetTerm, SomeTerm, PlainTerms, no_terms, one_term, PlainFields, no_fields, one_field, terms, list_of_terms}
 use Rattle.law_terms.specs.Values.{Value, EntityValue, ExtensionValue, NoneValue, SomeValue, RecordValue, FieldValues, no_field_values, one_field_value}
+use Rattle.law_terms.proofs.Listed.{listed_again}
 
 -- ---- parts
 
@@ -95,10 +96,6 @@ literal_low (StringLiteral s) = refl
 literal_apart : (l : PlainLiteral) (v : Value) → nat_lt (value_place v) 5 ≡ false → literal_value l ≡ v → ⊥
 literal_apart l v h e = let p : true ≡ false = sym (literal_low l) ∙ (ap (λ u. nat_lt (value_place u) 5) e ∙ h) in cc
 
-terms-again : (ts : PlainTerms) → terms (list_of_terms ts) ≡ ts
-terms-again no_terms = refl
-terms-again (one_term t ts) = ap (one_term t) (terms-again ts)
-
 -- ---- literals
 
 module _ (I : Interpretation) where
@@ -156,7 +153,7 @@ module _ (I : Interpretation) where
         let kb : Of b us = typed_elements b us (second_so (typed_all us) (are_elements b us) k.1) in
         let ka : Of a us = subst (λ x. Of x us) (sym p) kb in
         let q : list_of_terms ts ≡ list_of_terms us = one_list term_cmp terms_total (list_of_terms ts) (list_of_terms us) (elements_ascend a ts (second_so (typed_all ts) (are_elements a ts) g.1)) (elements_ascend b us (second_so (typed_all us) (are_elements b us) k.1)) (all_in a ts us gs ks ga ka (set_in ts us v)) (all_found (list_of_terms ts) us ks a ka (λ u w s m. in_all a ts u gs w ga s (set_in us ts (sym v) (meaning I u) m))) in
-        let r : ts ≡ us = sym (terms-again ts) ∙ (ap terms q ∙ terms-again us) in
+        let r : ts ≡ us = sym (listed_again ts) ∙ (ap terms q ∙ listed_again us) in
         λ i. SetTerm (p i) (r i)
     same (LiteralTerm l) (NoneTerm b) g k e v = absurd (literal_apart l NoneValue refl v)
     same (LiteralTerm l) (SomeTerm u) g k e v = absurd (literal_apart l (SomeValue (meaning I u)) refl v)

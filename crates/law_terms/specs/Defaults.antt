@@ -4,8 +4,11 @@ use Rattle.std.specs.Str.{chars}
 use Rattle.law_terms.specs.Tables.{Interpretation}
 use Rattle.law_terms.specs.Types.{extension_signature}
 use Rattle.law_terms.specs.TypeValues.{Enums, members_of}
-use Rattle.law_terms.specs.Plain.{ExtensionKind, IpAddrKind, DecimalKind, DatetimeKind, DurationKind, PlainType, OptionType, BitVecType, BoolType, EntityType, ExtensionType, StringType, RecordType, SetType, AttributeTypes, no_attributes, attribute, PlainExtension, DecimalOf, Ipv4Of, DatetimeOf, DurationOf}
-use Rattle.law_terms.specs.Values.{Value, BoolValue, BitVecValue, StringValue, EntityValue, ExtensionValue, NoneValue, RecordValue, SetValue, no_values, FieldValues, no_field_values, one_field_value}
+use Rattle.law_terms.specs.Plain.{ExtensionKind, IpAddrKind, DecimalKind, DatetimeKind, DurationKind, PlainType, OptionType, BitVecType}
+use Rattle.law_terms.specs.Plain.{BoolType, EntityType, ExtensionType, StringType, RecordType, SetType, AttributeTypes, no_attributes}
+use Rattle.law_terms.specs.Plain.{attribute, PlainExtension, DecimalOf, Ipv4Of, DatetimeOf, DurationOf}
+use Rattle.law_terms.specs.Values.{Value, BoolValue, BitVecValue, StringValue, EntityValue, ExtensionValue, NoneValue, RecordValue}
+use Rattle.law_terms.specs.Values.{SetValue, no_values, FieldValues, no_field_values, one_field_value}
 
 -- the first member, or the empty id
 abbrev pub default_id : Option (List (List ℕ)) → List ℕ
@@ -39,4 +42,14 @@ module _ (enums : Enums) where
 
   -- the interpretation that gives to all that is left open the default value of its type
   abbrev pub default_interpretation : Interpretation
-  default_interpretation = record { variable = λ id t. default_value t; function = λ f. record { entries = []; elsewhere = default_value f.output }; inside_none = λ t. default_value t; other_family = λ o. record { entries = []; elsewhere = default_value (extension_signature o).1 } }
+  default_interpretation =
+      record {
+        variable =
+            λ id t.
+            default_value t;
+        function =
+            λ f.
+            record { entries = []; elsewhere = default_value f.output };
+        inside_none = λ t. default_value t;
+        other_family = λ o. record { entries = []; elsewhere = default_value (extension_signature o).1 };
+      }

@@ -5,7 +5,11 @@ use Rattle.std.specs.Option.{option_or}
 use Rattle.std.specs.Str.{chars}
 use Rattle.law_terms.specs.Types.{type_of, types_of, is_bits, attribute_in}
 use Rattle.law_terms.specs.TypeValues.{Enums, members_of, is_code_point}
-use Rattle.law_terms.specs.Plain.{PlainType, OptionType, BoolType, EntityType, ExtensionType, RecordType, SetType, AttributeTypes, no_attributes, attribute, PatternPart, Character, Wildcard, PlainOp, BvnegoOp, RecordGetOp, StringLikeOp, UufOp, PlainLiteral, EntityLiteral, StringLiteral, PlainTerm, Application, NoneTerm, LiteralTerm, RecordTerm, SetTerm, SomeTerm, VariableTerm, PlainTerms, no_terms, one_term, PlainFields, no_fields, one_field}
+use Rattle.law_terms.specs.Plain.{PlainType, OptionType, BoolType, EntityType, ExtensionType, RecordType, SetType, AttributeTypes}
+use Rattle.law_terms.specs.Plain.{no_attributes, attribute, PatternPart, Character, Wildcard, PlainOp, BvnegoOp, RecordGetOp, StringLikeOp}
+use Rattle.law_terms.specs.Plain.{UufOp, PlainLiteral, EntityLiteral, StringLiteral, PlainTerm, Application, NoneTerm, LiteralTerm}
+use Rattle.law_terms.specs.Plain.{RecordTerm, SetTerm, SomeTerm, VariableTerm, PlainTerms, no_terms, one_term, PlainFields, no_fields}
+use Rattle.law_terms.specs.Plain.{one_field}
 
 -- What terms must keep besides typing, by rules of our own: a datatype of SMT-LIB has a constructor, so an enum type has a member,
 -- and the characters of SMT-LIB's strings are 0 to 196607 (theory UnicodeStrings).

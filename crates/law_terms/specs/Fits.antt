@@ -6,7 +6,9 @@ use Rattle.law_terms.specs.TermOrder.{term_cmp}
 use Rattle.law_terms.specs.Types.{field_types, inner_type, is_set, literal_type, type_eq, type_of}
 use Rattle.law_terms.specs.ValueOrder.{ascends, text_cmp}
 use Rattle.law_terms.specs.Meanings.{all_found, fields_in, meanings, terms_in}
-use Rattle.law_terms.specs.Nodes.{PlainLabel, OptionLabel, BitVecLabel, BoolLabel, EntityLabel, ExtensionLabel, StringLabel, RecordLabel, SetLabel, FunctionLabel, ApplicationLabel, CallLabel, NoneLabel, LiteralLabel, RecordOfLabel, SetOfLabel, SomeLabel, VariableLabel, PlainNode, Meaning, TypeMeaning, FunctionMeaning, TermMeaning}
+use Rattle.law_terms.specs.Nodes.{PlainLabel, OptionLabel, BitVecLabel, BoolLabel, EntityLabel, ExtensionLabel, StringLabel, RecordLabel}
+use Rattle.law_terms.specs.Nodes.{SetLabel, FunctionLabel, ApplicationLabel, CallLabel, NoneLabel, LiteralLabel, RecordOfLabel, SetOfLabel}
+use Rattle.law_terms.specs.Nodes.{SomeLabel, VariableLabel, PlainNode, Meaning, TypeMeaning, FunctionMeaning, TermMeaning}
 
 -- a part that is a type
 abbrev pub is_type : Meaning → Bool
@@ -50,7 +52,8 @@ has_kinds l ms = false
 abbrev pub has_type : PlainLabel → List Meaning → Bool
 has_type NoneLabel (TypeMeaning t ∷ ms) = is_some (inner_type t)
 has_type (LiteralLabel l) (TypeMeaning t ∷ ms) = type_eq (literal_type l) t
-has_type (RecordOfLabel names) (TypeMeaning t ∷ ms) = elim (fields_in names ms) [ None ↦ false | Some fs ↦ type_eq (RecordType (field_types fs)) t ]
+has_type (RecordOfLabel names) (TypeMeaning t ∷ ms) =
+    elim (fields_in names ms) [ None ↦ false | Some fs ↦ type_eq (RecordType (field_types fs)) t ]
 has_type SetOfLabel (TypeMeaning t ∷ ms) = is_set t
 has_type SomeLabel (TypeMeaning t ∷ TermMeaning u ∷ ms) = type_eq (OptionType (type_of u)) t
 has_type l ms = true
@@ -73,9 +76,12 @@ applies_no_function l = true
 
 -- a label fits what its parts stand for
 abbrev pub fits_parts : PlainLabel → List Meaning → Bool
-fits_parts l ms = has_kinds l ms && has_type l ms && ascends text_cmp (attributes_of l) && ascends term_cmp (elements_of l ms) && applies_no_function l
+fits_parts l ms =
+    has_kinds l ms && has_type l ms && ascends text_cmp (attributes_of l) && ascends term_cmp (elements_of l ms) && applies_no_function l
 
 -- A node fits the nodes before it: its parts stand before it, and its label fits what they stand for. This is the test for having a
 -- meaning.
 abbrev pub fits : List PlainNode → PlainNode → Bool
-fits ns n = list_all (λ i. nat_lt i (length ns)) n.parts && elim (all_found (meanings ns) n.parts) [ None ↦ false | Some ms ↦ fits_parts n.label ms ]
+fits ns n =
+    list_all (λ i. nat_lt i (length ns)) n.parts
+    && elim (all_found (meanings ns) n.parts) [ None ↦ false | Some ms ↦ fits_parts n.label ms ]

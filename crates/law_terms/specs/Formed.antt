@@ -5,7 +5,9 @@ use Rattle.law_terms.specs.Reached.{subterms, types_within}
 use Rattle.law_terms.specs.Types.{type_of}
 use Rattle.law_terms.specs.TypeValues.{IsExtension}
 use Rattle.law_terms.specs.ValueOrder.{text_cmp, ascends}
-use Rattle.law_terms.specs.Plain.{IpAddrKind, DecimalKind, DatetimeKind, DurationKind, PlainType, BitVecType, RecordType, PlainExtension, DecimalOf, Ipv4Of, Ipv6Of, DatetimeOf, DurationOf, PlainLiteral, BitVecLiteral, BoolLiteral, EntityLiteral, ExtensionLiteral, StringLiteral, PlainTerm, LiteralTerm}
+use Rattle.law_terms.specs.Plain.{IpAddrKind, DecimalKind, DatetimeKind, DurationKind, PlainType, BitVecType, RecordType, PlainExtension}
+use Rattle.law_terms.specs.Plain.{DecimalOf, Ipv4Of, Ipv6Of, DatetimeOf, DurationOf, PlainLiteral, BitVecLiteral, BoolLiteral}
+use Rattle.law_terms.specs.Plain.{EntityLiteral, ExtensionLiteral, StringLiteral, PlainTerm, LiteralTerm}
 use Rattle.law_terms.specs.Parts.{attribute_names}
 
 -- a type by itself: a width is from 1 to 128, and attributes ascend strictly by their bytes

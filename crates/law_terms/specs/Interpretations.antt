@@ -1,12 +1,15 @@
 -- The interpretations of a list of terms.
 use Rattle.std.specs.Prelude.{bytes_eq, ◌≡◌, ℕ, ◌==◌, Bool, false, cond, ◌&&◌, List, [], ◌∷◌, map, ⊤, IfSome, IsFalse}
 use Rattle.std.specs.List.{AllByRecursion, list_any}
-use Rattle.law_terms.specs.Reached.{selector_of_extension, reached_terms, reached_variables, reached_functions, reached_options, reached_selectors}
+use Rattle.law_terms.specs.Reached.{selector_of_extension, reached_terms, reached_variables, reached_functions, reached_options}
+use Rattle.law_terms.specs.Reached.{reached_selectors}
 use Rattle.law_terms.specs.Tables.{Table, Interpretation}
 use Rattle.law_terms.specs.Types.{type_eq, extension_signature}
 use Rattle.law_terms.specs.TypeValues.{Enums, IsValue}
 use Rattle.law_terms.specs.ValueOrder.{value_eq}
-use Rattle.law_terms.specs.Plain.{IpAddrKind, PlainType, ExtensionType, PlainFunction, ExtensionOp, DatetimeOfBitVecOp, DatetimeValOp, DecimalValOp, DurationOfBitVecOp, DurationValOp, IpAddrV4Op, IpAddrV6Op, IpIsV4Op, IpPrefixV4Op, IpPrefixV6Op, PlainOp, ExtOp, OptionGetOp, UufOp, PlainTerm, Application, VariableTerm, Ipv4Of, Ipv6Of}
+use Rattle.law_terms.specs.Plain.{IpAddrKind, PlainType, ExtensionType, PlainFunction, ExtensionOp, DatetimeOfBitVecOp, DatetimeValOp}
+use Rattle.law_terms.specs.Plain.{DecimalValOp, DurationOfBitVecOp, DurationValOp, IpAddrV4Op, IpAddrV6Op, IpIsV4Op, IpPrefixV4Op}
+use Rattle.law_terms.specs.Plain.{IpPrefixV6Op, PlainOp, ExtOp, OptionGetOp, UufOp, PlainTerm, Application, VariableTerm, Ipv4Of, Ipv6Of}
 use Rattle.law_terms.specs.Values.{Value, BoolValue, ExtensionValue}
 
 -- no value stands twice
@@ -31,7 +34,8 @@ IsOfOtherFamily o v = ⊥
 
 -- I has for a selector a table from IP ranges of the other family to values of the type that the selector gives
 abbrev pub IsSelectorTable : Enums → Interpretation → ExtensionOp → Type 0
-IsSelectorTable enums I o = IsTable (λ v. IsOfOtherFamily o v × IsValue enums (ExtensionType IpAddrKind) v) enums (extension_signature o).1 (I.other_family o)
+IsSelectorTable enums I o =
+    IsTable (λ v. IsOfOtherFamily o v × IsValue enums (ExtensionType IpAddrKind) v) enums (extension_signature o).1 (I.other_family o)
 
 -- I gives what a selector of IP ranges asks of it; the other operators of extension types ask nothing
 abbrev pub IsGivenSelector : Enums → Interpretation → ExtensionOp → Type 0
@@ -111,4 +115,16 @@ empty_table = record { entries = []; elsewhere = unused_value }
 
 -- what the terms reach of I, and nothing else of it
 abbrev pub restrict : Interpretation → List PlainTerm → Interpretation
-restrict I ts = record { variable = λ id t. cond (list_any (variable_eq (id, t)) (reached_variables ts)) (I.variable id t) unused_value; function = λ f. cond (list_any (function_eq f) (reached_functions ts)) (I.function f) empty_table; inside_none = λ t. cond (list_any (type_eq t) (reached_options ts)) (I.inside_none t) unused_value; other_family = λ o. cond (list_any (selector_eq o) (reached_selectors ts)) (I.other_family o) empty_table }
+restrict I ts =
+    record {
+      variable =
+          λ id t.
+          cond (list_any (variable_eq (id, t)) (reached_variables ts)) (I.variable id t) unused_value;
+      function =
+          λ f.
+          cond (list_any (function_eq f) (reached_functions ts)) (I.function f) empty_table;
+      inside_none =
+          λ t.
+          cond (list_any (type_eq t) (reached_options ts)) (I.inside_none t) unused_value;
+      other_family = λ o. cond (list_any (selector_eq o) (reached_selectors ts)) (I.other_family o) empty_table;
+    }

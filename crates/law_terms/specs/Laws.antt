@@ -19,11 +19,15 @@ use Rattle.law_terms.specs.Plain.{PatternPart, PlainType, PlainFunction, PlainOp
 
 -- a typed term without fault has in every interpretation a value of its type
 abbrev pub TypedTermsHaveValues : Type 0
-TypedTermsHaveValues = (enums : Enums) (I : Interpretation) (t : PlainTerm) (ty : PlainType) → Typed t ty → IsFormed t → first_fault enums (t ∷ []) ≡ None → IsInterpretation enums (t ∷ []) I → IsValue enums ty (term_value I t)
+TypedTermsHaveValues =
+    (enums : Enums) (I : Interpretation) (t : PlainTerm) (ty : PlainType) → Typed t ty → IsFormed t → first_fault enums (t ∷ []) ≡ None →
+    IsInterpretation enums (t ∷ []) I → IsValue enums ty (term_value I t)
 
 -- typed terms without fault have an interpretation: the one of default values
 abbrev pub DefaultsAreInterpretations : Type 0
-DefaultsAreInterpretations = (enums : Enums) (ts : List PlainTerm) → AreTyped ts → first_fault enums ts ≡ None → IsInterpretation enums ts (default_interpretation enums)
+DefaultsAreInterpretations =
+    (enums : Enums) (ts : List PlainTerm) → AreTyped ts → first_fault enums ts ≡ None →
+    IsInterpretation enums ts (default_interpretation enums)
 
 -- a value depends on nothing but what the term reaches
 abbrev pub ReachedDecides : Type 0

@@ -1,5 +1,4 @@
 pub mod Defaults
-pub mod Examples
 pub mod Faults
 pub mod Fits
 pub mod Formed
@@ -11,14 +10,15 @@ pub mod Literals
 pub mod Meaning
 pub mod Meanings
 pub mod Names
-pub mod NodeExamples
 pub mod NodeLaws
+pub mod NodeRows
 pub mod Nodes
 pub mod Operators
 pub mod Parts
 pub mod Patterns
 pub mod Plain
 pub mod Reached
+pub mod Rows
 pub mod Shapes
 pub mod Tables
 pub mod TermOrder

@@ -4,7 +4,8 @@ use Rattle.law_terms.specs.Formed.{IsFormed}
 use Rattle.law_terms.specs.Meaning.{term_value}
 use Rattle.law_terms.specs.Tables.{Interpretation}
 use Rattle.law_terms.specs.Typing.{Typed}
-use Rattle.law_terms.specs.Plain.{PlainType, PlainTerm, Application, NoneTerm, LiteralTerm, RecordTerm, SetTerm, SomeTerm, VariableTerm, PlainTerms, no_terms, one_term, PlainFields, no_fields, one_field}
+use Rattle.law_terms.specs.Plain.{PlainType, PlainTerm, Application, NoneTerm, LiteralTerm, RecordTerm, SetTerm, SomeTerm, VariableTerm}
+use Rattle.law_terms.specs.Plain.{PlainTerms, no_terms, one_term, PlainFields, no_fields, one_field}
 
 abbrev mutual
   -- a term with no variable and no application in it
@@ -29,4 +30,6 @@ abbrev mutual
 
 -- typed literals of one type with one value are one term
 abbrev pub LiteralsAreTheirValues : Type 0
-LiteralsAreTheirValues = (I : Interpretation) (t u : PlainTerm) (ty : PlainType) → IsTrue (is_literal t) → IsTrue (is_literal u) → Typed t ty → Typed u ty → IsFormed t → IsFormed u → term_value I t ≡ term_value I u → t ≡ u
+LiteralsAreTheirValues =
+    (I : Interpretation) (t u : PlainTerm) (ty : PlainType) → IsTrue (is_literal t) → IsTrue (is_literal u) → Typed t ty → Typed u ty →
+    IsFormed t → IsFormed u → term_value I t ≡ term_value I u → t ≡ u

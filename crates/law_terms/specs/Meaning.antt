@@ -6,8 +6,11 @@ use Rattle.law_terms.specs.Operators.{apply}
 use Rattle.law_terms.specs.Tables.{Interpretation}
 use Rattle.law_terms.specs.Typing.{typed}
 use Rattle.law_terms.specs.ValueOrder.{set_of}
-use Rattle.law_terms.specs.Plain.{PlainLiteral, BitVecLiteral, BoolLiteral, EntityLiteral, ExtensionLiteral, StringLiteral, PlainTerm, Application, NoneTerm, LiteralTerm, RecordTerm, SetTerm, SomeTerm, VariableTerm, PlainTerms, no_terms, one_term, PlainFields, no_fields, one_field}
-use Rattle.law_terms.specs.Values.{Value, BoolValue, BitVecValue, StringValue, EntityValue, ExtensionValue, NoneValue, SomeValue, RecordValue, FieldValues, no_field_values, one_field_value}
+use Rattle.law_terms.specs.Plain.{PlainLiteral, BitVecLiteral, BoolLiteral, EntityLiteral, ExtensionLiteral, StringLiteral, PlainTerm}
+use Rattle.law_terms.specs.Plain.{Application, NoneTerm, LiteralTerm, RecordTerm, SetTerm, SomeTerm, VariableTerm, PlainTerms, no_terms}
+use Rattle.law_terms.specs.Plain.{one_term, PlainFields, no_fields, one_field}
+use Rattle.law_terms.specs.Values.{Value, BoolValue, BitVecValue, StringValue, EntityValue, ExtensionValue, NoneValue, SomeValue}
+use Rattle.law_terms.specs.Values.{RecordValue, FieldValues, no_field_values, one_field_value}
 
 -- a literal is its own value: a text is the list of the code points that its bytes spell
 abbrev pub literal_value : PlainLiteral → Value

@@ -1,11 +1,15 @@
 -- What nodes stand for.
 use Rattle.std.specs.Prelude.{ℕ, Bool, true, false, ◌++◌, List, [], ◌∷◌, Option, Some, None, fold, option_and_then, option_map, slice_get}
 use Rattle.std.specs.Bool.{then_some}
-use Rattle.law_terms.specs.Plain.{PlainType, OptionType, BitVecType, BoolType, EntityType, ExtensionType, StringType, RecordType, SetType, AttributeTypes, no_attributes, attribute, UufOp, PlainTerm, Application, NoneTerm, LiteralTerm, RecordTerm, SetTerm, SomeTerm, VariableTerm, PlainFields, no_fields, one_field, terms}
+use Rattle.law_terms.specs.Plain.{PlainType, OptionType, BitVecType, BoolType, EntityType, ExtensionType, StringType, RecordType, SetType}
+use Rattle.law_terms.specs.Plain.{AttributeTypes, no_attributes, attribute, UufOp, PlainTerm, Application, NoneTerm, LiteralTerm}
+use Rattle.law_terms.specs.Plain.{RecordTerm, SetTerm, SomeTerm, VariableTerm, PlainFields, no_fields, one_field, terms}
 use Rattle.law_terms.specs.TermOrder.{term_cmp}
 use Rattle.law_terms.specs.Types.{type_eq, type_of}
 use Rattle.law_terms.specs.ValueOrder.{ascends, text_cmp}
-use Rattle.law_terms.specs.Nodes.{PlainLabel, OptionLabel, BitVecLabel, BoolLabel, EntityLabel, ExtensionLabel, StringLabel, RecordLabel, SetLabel, FunctionLabel, ApplicationLabel, CallLabel, NoneLabel, LiteralLabel, RecordOfLabel, SetOfLabel, SomeLabel, VariableLabel, PlainNode, Meaning, TypeMeaning, FunctionMeaning, TermMeaning}
+use Rattle.law_terms.specs.Nodes.{PlainLabel, OptionLabel, BitVecLabel, BoolLabel, EntityLabel, ExtensionLabel, StringLabel, RecordLabel}
+use Rattle.law_terms.specs.Nodes.{SetLabel, FunctionLabel, ApplicationLabel, CallLabel, NoneLabel, LiteralLabel, RecordOfLabel, SetOfLabel}
+use Rattle.law_terms.specs.Nodes.{SomeLabel, VariableLabel, PlainNode, Meaning, TypeMeaning, FunctionMeaning, TermMeaning}
 
 -- the terms that all of these are, none where one is no term
 abbrev pub terms_in : List Meaning → Option (List PlainTerm)

@@ -1,7 +1,10 @@
 -- The names of operators, by which jobs and messages call them.
 use Rattle.std.specs.Prelude.{ℕ, List, codes}
 use Rattle.law_numbers.specs.BitOperators.{bits_entry, test_entry, overflow_entry}
-use Rattle.law_terms.specs.Plain.{ExtensionOp, DatetimeOfBitVecOp, DatetimeValOp, DecimalValOp, DurationOfBitVecOp, DurationValOp, IpAddrV4Op, IpAddrV6Op, IpIsV4Op, IpPrefixV4Op, IpPrefixV6Op, PlainOp, AndOp, BvnegOp, BvnegoOp, EqOp, ExtOp, IteOp, NotOp, OptionGetOp, OrOp, RecordGetOp, SetInterOp, SetMemberOp, SetSubsetOp, StringLikeOp, UufOp, ZeroExtendOp, BitsOp, TestOp, OverflowOp}
+use Rattle.law_terms.specs.Plain.{ExtensionOp, DatetimeOfBitVecOp, DatetimeValOp, DecimalValOp, DurationOfBitVecOp, DurationValOp}
+use Rattle.law_terms.specs.Plain.{IpAddrV4Op, IpAddrV6Op, IpIsV4Op, IpPrefixV4Op, IpPrefixV6Op, PlainOp, AndOp, BvnegOp, BvnegoOp, EqOp}
+use Rattle.law_terms.specs.Plain.{ExtOp, IteOp, NotOp, OptionGetOp, OrOp, RecordGetOp, SetInterOp, SetMemberOp, SetSubsetOp, StringLikeOp}
+use Rattle.law_terms.specs.Plain.{UufOp, ZeroExtendOp, BitsOp, TestOp, OverflowOp}
 
 -- the name of each operator of extension types by itself, by which jobs call it
 abbrev pub extension_op_name : ExtensionOp → List ℕ

@@ -28,8 +28,10 @@ TheLastHasItsMeaning = (ns : List PlainNode) (n : PlainNode) → meaning_at (ns 
 
 -- what something stands for determines its label and what its parts stand for
 abbrev pub MeaningsDetermineParts : Type 0
-MeaningsDetermineParts = (l : PlainLabel) (ms : List Meaning) (m : Meaning) → stands_for l ms ≡ Some m → (l ≡ label_in m) × (ms ≡ parts_in m)
+MeaningsDetermineParts =
+    (l : PlainLabel) (ms : List Meaning) (m : Meaning) → stands_for l ms ≡ Some m → (l ≡ label_in m) × (ms ≡ parts_in m)
 
 -- the list without nodes is a graph, and so is a graph with one node more that fits and is new
 abbrev pub GraphsGrow : Type 0
-GraphsGrow = IsGraph [] × ((ns : List PlainNode) (n : PlainNode) → IsGraph ns → IsTrue (fits ns n) → ¬ Contains ns n → IsGraph (ns ++ n ∷ []))
+GraphsGrow =
+    IsGraph [] × ((ns : List PlainNode) (n : PlainNode) → IsGraph ns → IsTrue (fits ns n) → ¬ Contains ns n → IsGraph (ns ++ n ∷ []))

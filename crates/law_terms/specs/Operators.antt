@@ -7,8 +7,13 @@ use Rattle.law_numbers.specs.BitVectors.{signed, bits_of}
 use Rattle.law_terms.specs.Patterns.{matches}
 use Rattle.law_terms.specs.Tables.{Interpretation, value_at}
 use Rattle.law_terms.specs.ValueOrder.{value_eq, list_of_values, set_of}
-use Rattle.law_terms.specs.Plain.{PlainType, ExtensionOp, DatetimeOfBitVecOp, DatetimeValOp, DecimalValOp, DurationOfBitVecOp, DurationValOp, IpAddrV4Op, IpAddrV6Op, IpIsV4Op, IpPrefixV4Op, IpPrefixV6Op, PlainOp, AndOp, BvnegOp, BvnegoOp, EqOp, ExtOp, IteOp, NotOp, OptionGetOp, OrOp, RecordGetOp, SetInterOp, SetMemberOp, SetSubsetOp, StringLikeOp, UufOp, ZeroExtendOp, DecimalOf, Ipv4Of, Ipv6Of, DatetimeOf, DurationOf, BitsOp, TestOp, OverflowOp}
-use Rattle.law_terms.specs.Values.{Value, BoolValue, BitVecValue, StringValue, ExtensionValue, NoneValue, SomeValue, RecordValue, SetValue, FieldValues, no_field_values, one_field_value}
+use Rattle.law_terms.specs.Plain.{PlainType, ExtensionOp, DatetimeOfBitVecOp, DatetimeValOp, DecimalValOp, DurationOfBitVecOp}
+use Rattle.law_terms.specs.Plain.{DurationValOp, IpAddrV4Op, IpAddrV6Op, IpIsV4Op, IpPrefixV4Op, IpPrefixV6Op, PlainOp, AndOp, BvnegOp}
+use Rattle.law_terms.specs.Plain.{BvnegoOp, EqOp, ExtOp, IteOp, NotOp, OptionGetOp, OrOp, RecordGetOp, SetInterOp, SetMemberOp, SetSubsetOp}
+use Rattle.law_terms.specs.Plain.{StringLikeOp, UufOp, ZeroExtendOp, DecimalOf, Ipv4Of, Ipv6Of, DatetimeOf, DurationOf, BitsOp, TestOp}
+use Rattle.law_terms.specs.Plain.{OverflowOp}
+use Rattle.law_terms.specs.Values.{Value, BoolValue, BitVecValue, StringValue, ExtensionValue, NoneValue, SomeValue, RecordValue, SetValue}
+use Rattle.law_terms.specs.Values.{FieldValues, no_field_values, one_field_value}
 
 -- What a value holds, where it is of the kind. What these give for other values is no matter: typed terms do not come to it.
 

@@ -2,7 +2,11 @@
 use Rattle.std.specs.Prelude.{ℕ, List, [], ◌∷◌, ◌++◌, Option, Some, None}
 use Rattle.std.specs.List.{filter_map, flat_map}
 use Rattle.law_terms.specs.Types.{type_of}
-use Rattle.law_terms.specs.Plain.{PlainType, OptionType, BitVecType, BoolType, EntityType, ExtensionType, StringType, RecordType, SetType, AttributeTypes, no_attributes, attribute, PlainFunction, ExtensionOp, IpAddrV4Op, IpAddrV6Op, IpPrefixV4Op, IpPrefixV6Op, PlainOp, ExtOp, OptionGetOp, UufOp, PlainTerm, Application, NoneTerm, LiteralTerm, RecordTerm, SetTerm, SomeTerm, VariableTerm, PlainTerms, no_terms, one_term, PlainFields, no_fields, one_field}
+use Rattle.law_terms.specs.Plain.{PlainType, OptionType, BitVecType, BoolType, EntityType, ExtensionType, StringType, RecordType, SetType}
+use Rattle.law_terms.specs.Plain.{AttributeTypes, no_attributes, attribute, PlainFunction, ExtensionOp, IpAddrV4Op, IpAddrV6Op}
+use Rattle.law_terms.specs.Plain.{IpPrefixV4Op, IpPrefixV6Op, PlainOp, ExtOp, OptionGetOp, UufOp, PlainTerm, Application, NoneTerm}
+use Rattle.law_terms.specs.Plain.{LiteralTerm, RecordTerm, SetTerm, SomeTerm, VariableTerm, PlainTerms, no_terms, one_term, PlainFields}
+use Rattle.law_terms.specs.Plain.{no_fields, one_field}
 
 abbrev mutual
   -- a term's subterms, and last the term
@@ -45,9 +49,9 @@ abbrev mutual
 -- What one term brings by itself, apart from its parts.
 
 -- a variable's id and type
-abbrev pub variable_of : PlainTerm → Option (List ℕ × PlainType)
-variable_of (VariableTerm id t) = Some (id, t)
-variable_of t = None
+abbrev pub reached_variable : PlainTerm → Option (List ℕ × PlainType)
+reached_variable (VariableTerm id t) = Some (id, t)
+reached_variable t = None
 
 -- the uninterpreted function that an operator is
 abbrev pub function_of_op : PlainOp → Option PlainFunction
@@ -55,9 +59,9 @@ function_of_op (UufOp f) = Some f
 function_of_op o = None
 
 -- the uninterpreted function that an application applies
-abbrev pub function_of : PlainTerm → Option PlainFunction
-function_of (Application o ts t) = function_of_op o
-function_of t = None
+abbrev pub reached_function : PlainTerm → Option PlainFunction
+reached_function (Application o ts t) = function_of_op o
+reached_function t = None
 
 -- the type that `option.get` gives, for which an interpretation has a value at none
 abbrev pub opened_of_op : PlainOp → PlainType → Option PlainType
@@ -95,11 +99,11 @@ module _ (ts : List PlainTerm) where
 
   -- the ids and types of the variables in the terms
   abbrev pub reached_variables : List (List ℕ × PlainType)
-  reached_variables = filter_map variable_of reached_terms
+  reached_variables = filter_map reached_variable reached_terms
 
   -- the uninterpreted functions that are applied in the terms
   abbrev pub reached_functions : List PlainFunction
-  reached_functions = filter_map function_of reached_terms
+  reached_functions = filter_map reached_function reached_terms
 
   -- the types that the applications of `option.get` in the terms give
   abbrev pub reached_options : List PlainType
@@ -111,4 +115,6 @@ module _ (ts : List PlainTerm) where
 
   -- the types inside the types of all subterms, and those inside the types of all applied functions
   abbrev pub reached_types : List PlainType
-  reached_types = flat_map (λ t. types_within (type_of t)) reached_terms ++ flat_map (λ f. types_within f.argument ++ types_within f.output) reached_functions
+  reached_types =
+      flat_map (λ t. types_within (type_of t)) reached_terms
+      ++ flat_map (λ f. types_within f.argument ++ types_within f.output) reached_functions

@@ -8,8 +8,10 @@ use Rattle.law_terms.specs.Tables.{Interpretation}
 use Rattle.law_terms.specs.Typing.{Typed}
 use Rattle.law_terms.specs.TypeValues.{Enums, IsValue, IsExtension}
 use Rattle.law_terms.specs.ValueOrder.{value_cmp, ascends, list_of_values}
-use Rattle.law_terms.specs.Plain.{PlainType, OptionType, BitVecType, BoolType, EntityType, ExtensionType, StringType, RecordType, SetType, AttributeTypes, no_attributes, attribute, PlainTerm}
-use Rattle.law_terms.specs.Values.{Value, BoolValue, BitVecValue, StringValue, EntityValue, ExtensionValue, NoneValue, SomeValue, RecordValue, SetValue, FieldValues, no_field_values, one_field_value}
+use Rattle.law_terms.specs.Plain.{PlainType, OptionType, BitVecType, BoolType, EntityType, ExtensionType, StringType, RecordType, SetType}
+use Rattle.law_terms.specs.Plain.{AttributeTypes, no_attributes, attribute, PlainTerm}
+use Rattle.law_terms.specs.Values.{Value, BoolValue, BitVecValue, StringValue, EntityValue, ExtensionValue, NoneValue, SomeValue}
+use Rattle.law_terms.specs.Values.{RecordValue, SetValue, FieldValues, no_field_values, one_field_value}
 
 abbrev mutual
   -- a value has the shape of a type: as a value of the type, but with any code points, and any id of an entity
@@ -22,7 +24,8 @@ abbrev mutual
   IsShaped (OptionType t) NoneValue = ⊤
   IsShaped (OptionType t) (SomeValue v) = IsShaped t v
   IsShaped (RecordType x) (RecordValue fs) = AreShapedFields x fs
-  IsShaped (SetType t) (SetValue vs) = IsTrue (ascends value_cmp (list_of_values vs)) × AllByRecursion (λ v. IsShaped t v) (list_of_values vs)
+  IsShaped (SetType t) (SetValue vs) =
+      IsTrue (ascends value_cmp (list_of_values vs)) × AllByRecursion (λ v. IsShaped t v) (list_of_values vs)
   IsShaped t v = ⊥
 
   -- the attributes are the type's, in its order
@@ -37,4 +40,6 @@ ValuesAreShaped = (enums : Enums) (ty : PlainType) (v : Value) → IsValue enums
 
 -- a typed term has in every interpretation a value of the shape of its type, whatever its faults
 abbrev pub TypedTermsHaveShapes : Type 0
-TypedTermsHaveShapes = (enums : Enums) (I : Interpretation) (t : PlainTerm) (ty : PlainType) → Typed t ty → IsFormed t → IsInterpretation enums (t ∷ []) I → IsShaped ty (term_value I t)
+TypedTermsHaveShapes =
+    (enums : Enums) (I : Interpretation) (t : PlainTerm) (ty : PlainType) → Typed t ty → IsFormed t → IsInterpretation enums (t ∷ []) I →
+    IsShaped ty (term_value I t)

@@ -9,7 +9,11 @@ use Rattle.law_numbers.specs.BitOperators.{bits_entry, test_entry, overflow_entr
 use Rattle.law_terms.specs.Interpretations.{extension_op_place}
 use Rattle.law_terms.specs.Types.{type_cmp}
 use Rattle.law_terms.specs.ValueOrder.{text_cmp}
-use Rattle.law_terms.specs.Plain.{PlainFunction, PatternPart, Character, Wildcard, PlainOp, AndOp, BvnegOp, BvnegoOp, EqOp, ExtOp, IteOp, NotOp, OptionGetOp, OrOp, RecordGetOp, SetInterOp, SetMemberOp, SetSubsetOp, StringLikeOp, UufOp, ZeroExtendOp, PlainLiteral, BitVecLiteral, BoolLiteral, EntityLiteral, ExtensionLiteral, StringLiteral, PlainTerm, Application, NoneTerm, LiteralTerm, RecordTerm, SetTerm, SomeTerm, VariableTerm, PlainTerms, no_terms, one_term, PlainFields, no_fields, one_field, BitsOp, TestOp, OverflowOp}
+use Rattle.law_terms.specs.Plain.{PlainFunction, PatternPart, Character, Wildcard, PlainOp, AndOp, BvnegOp, BvnegoOp, EqOp, ExtOp, IteOp}
+use Rattle.law_terms.specs.Plain.{NotOp, OptionGetOp, OrOp, RecordGetOp, SetInterOp, SetMemberOp, SetSubsetOp, StringLikeOp, UufOp}
+use Rattle.law_terms.specs.Plain.{ZeroExtendOp, PlainLiteral, BitVecLiteral, BoolLiteral, EntityLiteral, ExtensionLiteral, StringLiteral}
+use Rattle.law_terms.specs.Plain.{PlainTerm, Application, NoneTerm, LiteralTerm, RecordTerm, SetTerm, SomeTerm, VariableTerm, PlainTerms}
+use Rattle.law_terms.specs.Plain.{no_terms, one_term, PlainFields, no_fields, one_field, BitsOp, TestOp, OverflowOp}
 
 -- characters by their code point, and the wildcard behind them
 abbrev pub part_cmp : PatternPart → PatternPart → Ordering

@@ -14,4 +14,5 @@ set_term element ts = SetTerm element (terms (sorted_terms ts))
 
 -- the terms of a list in order ascend, and are those of the list
 abbrev pub SortedTermsAscend : Type 0
-SortedTermsAscend = (ts : List PlainTerm) → IsTrue (ascends term_cmp (sorted_terms ts)) × ((t : PlainTerm) → Contains (sorted_terms ts) t ↔ Contains ts t)
+SortedTermsAscend =
+    (ts : List PlainTerm) → IsTrue (ascends term_cmp (sorted_terms ts)) × ((t : PlainTerm) → Contains (sorted_terms ts) t ↔ Contains ts t)

@@ -6,8 +6,11 @@ use Rattle.std.specs.Str.{chars}
 pub use Rattle.law_numbers.specs.Longs.{IsLong}
 pub use Rattle.law_texts.specs.Characters.{greatest_code_point, is_code_point}
 use Rattle.law_terms.specs.ValueOrder.{text_cmp, value_cmp, ascends, list_of_values}
-use Rattle.law_terms.specs.Plain.{ExtensionKind, IpAddrKind, DecimalKind, DatetimeKind, DurationKind, PlainType, OptionType, BitVecType, BoolType, EntityType, ExtensionType, StringType, RecordType, SetType, AttributeTypes, no_attributes, attribute, PlainExtension, DecimalOf, Ipv4Of, Ipv6Of, DatetimeOf, DurationOf}
-use Rattle.law_terms.specs.Values.{Value, BoolValue, BitVecValue, StringValue, EntityValue, ExtensionValue, NoneValue, SomeValue, RecordValue, SetValue, FieldValues, no_field_values, one_field_value}
+use Rattle.law_terms.specs.Plain.{ExtensionKind, IpAddrKind, DecimalKind, DatetimeKind, DurationKind, PlainType, OptionType, BitVecType}
+use Rattle.law_terms.specs.Plain.{BoolType, EntityType, ExtensionType, StringType, RecordType, SetType, AttributeTypes, no_attributes}
+use Rattle.law_terms.specs.Plain.{attribute, PlainExtension, DecimalOf, Ipv4Of, Ipv6Of, DatetimeOf, DurationOf}
+use Rattle.law_terms.specs.Values.{Value, BoolValue, BitVecValue, StringValue, EntityValue, ExtensionValue, NoneValue, SomeValue}
+use Rattle.law_terms.specs.Values.{RecordValue, SetValue, FieldValues, no_field_values, one_field_value}
 
 -- the enum types with their members, texts in ascending order
 abbrev pub Enums : Type 0
@@ -62,7 +65,8 @@ abbrev mutual
   IsValue enums (OptionType t) NoneValue = ⊤
   IsValue enums (OptionType t) (SomeValue v) = IsValue enums t v
   IsValue enums (RecordType x) (RecordValue fs) = AreFieldValues enums x fs
-  IsValue enums (SetType t) (SetValue vs) = IsTrue (ascends value_cmp (list_of_values vs)) × AllByRecursion (λ v. IsValue enums t v) (list_of_values vs)
+  IsValue enums (SetType t) (SetValue vs) =
+      IsTrue (ascends value_cmp (list_of_values vs)) × AllByRecursion (λ v. IsValue enums t v) (list_of_values vs)
   IsValue enums t v = ⊥
 
   -- the attributes are the type's, in its order

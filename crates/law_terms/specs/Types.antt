@@ -5,7 +5,15 @@ use Rattle.std.specs.Ordering.{nat_cmp, ordering_then, is_eq}
 use Rattle.std.specs.declared.cmp.Ordering.{Ordering}
 use Rattle.std.specs.declared.cmp.Ordering.TheVariants.{Less, Equal, Greater}
 use Rattle.law_terms.specs.ValueOrder.{text_cmp}
-use Rattle.law_terms.specs.Plain.{ExtensionKind, IpAddrKind, DecimalKind, DatetimeKind, DurationKind, PlainType, OptionType, BitVecType, BoolType, EntityType, ExtensionType, StringType, RecordType, SetType, AttributeTypes, no_attributes, attribute, ExtensionOp, DatetimeOfBitVecOp, DatetimeValOp, DecimalValOp, DurationOfBitVecOp, DurationValOp, IpAddrV4Op, IpAddrV6Op, IpIsV4Op, IpPrefixV4Op, IpPrefixV6Op, PlainOp, AndOp, BvnegOp, BvnegoOp, EqOp, ExtOp, IteOp, NotOp, OptionGetOp, OrOp, RecordGetOp, SetInterOp, SetMemberOp, SetSubsetOp, StringLikeOp, UufOp, ZeroExtendOp, PlainExtension, DecimalOf, Ipv4Of, Ipv6Of, DatetimeOf, DurationOf, PlainLiteral, BitVecLiteral, BoolLiteral, EntityLiteral, ExtensionLiteral, StringLiteral, PlainTerm, Application, NoneTerm, LiteralTerm, RecordTerm, SetTerm, SomeTerm, VariableTerm, PlainTerms, PlainFields, no_fields, one_field, list_of_terms, BitsOp, TestOp, OverflowOp}
+use Rattle.law_terms.specs.Plain.{ExtensionKind, IpAddrKind, DecimalKind, DatetimeKind, DurationKind, PlainType, OptionType, BitVecType}
+use Rattle.law_terms.specs.Plain.{BoolType, EntityType, ExtensionType, StringType, RecordType, SetType, AttributeTypes, no_attributes}
+use Rattle.law_terms.specs.Plain.{attribute, ExtensionOp, DatetimeOfBitVecOp, DatetimeValOp, DecimalValOp, DurationOfBitVecOp}
+use Rattle.law_terms.specs.Plain.{DurationValOp, IpAddrV4Op, IpAddrV6Op, IpIsV4Op, IpPrefixV4Op, IpPrefixV6Op, PlainOp, AndOp, BvnegOp}
+use Rattle.law_terms.specs.Plain.{BvnegoOp, EqOp, ExtOp, IteOp, NotOp, OptionGetOp, OrOp, RecordGetOp, SetInterOp, SetMemberOp, SetSubsetOp}
+use Rattle.law_terms.specs.Plain.{StringLikeOp, UufOp, ZeroExtendOp, PlainExtension, DecimalOf, Ipv4Of, Ipv6Of, DatetimeOf, DurationOf}
+use Rattle.law_terms.specs.Plain.{PlainLiteral, BitVecLiteral, BoolLiteral, EntityLiteral, ExtensionLiteral, StringLiteral, PlainTerm}
+use Rattle.law_terms.specs.Plain.{Application, NoneTerm, LiteralTerm, RecordTerm, SetTerm, SomeTerm, VariableTerm, PlainTerms, PlainFields}
+use Rattle.law_terms.specs.Plain.{no_fields, one_field, list_of_terms, BitsOp, TestOp, OverflowOp}
 
 -- the place of an extension type in the order of types
 abbrev pub extension_kind_place : ExtensionKind → ℕ
@@ -41,7 +49,8 @@ abbrev mutual
   attribute_types_cmp no_attributes no_attributes = Equal
   attribute_types_cmp no_attributes (attribute b u y) = Less
   attribute_types_cmp (attribute a t x) no_attributes = Greater
-  attribute_types_cmp (attribute a t x) (attribute b u y) = ordering_then (ordering_then (text_cmp a b) (type_cmp t u)) (attribute_types_cmp x y)
+  attribute_types_cmp (attribute a t x) (attribute b u y) =
+      ordering_then (ordering_then (text_cmp a b) (type_cmp t u)) (attribute_types_cmp x y)
 
 -- equality of types, as a test
 abbrev pub type_eq : PlainType → PlainType → Bool

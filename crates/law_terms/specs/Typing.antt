@@ -4,7 +4,8 @@ use Rattle.std.specs.List.{AllByRecursion, list_all}
 use Rattle.law_terms.specs.TermOrder.{term_cmp}
 use Rattle.law_terms.specs.Types.{is_type, result_type, type_eq, type_of, types_of}
 use Rattle.law_terms.specs.ValueOrder.{ascends}
-use Rattle.law_terms.specs.Plain.{PlainType, BoolType, PlainTerm, Application, NoneTerm, LiteralTerm, RecordTerm, SetTerm, SomeTerm, VariableTerm, PlainTerms, no_terms, one_term, PlainFields, no_fields, one_field, list_of_terms}
+use Rattle.law_terms.specs.Plain.{PlainType, BoolType, PlainTerm, Application, NoneTerm, LiteralTerm, RecordTerm, SetTerm, SomeTerm}
+use Rattle.law_terms.specs.Plain.{VariableTerm, PlainTerms, no_terms, one_term, PlainFields, no_fields, one_field, list_of_terms}
 
 -- the elements of a set: each is of the element type, and each stands once, in the order of terms
 abbrev pub are_elements : PlainType → PlainTerms → Bool

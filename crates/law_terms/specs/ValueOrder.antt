@@ -8,7 +8,8 @@ use Rattle.std.specs.Ordering.{nat_cmp, bool_cmp, ordering_then, is_eq, is_lt}
 use Rattle.std.specs.declared.cmp.Ordering.{Ordering}
 use Rattle.std.specs.declared.cmp.Ordering.TheVariants.{Less, Equal, Greater}
 use Rattle.law_terms.specs.Plain.{PlainExtension, DecimalOf, Ipv4Of, Ipv6Of, DatetimeOf, DurationOf}
-use Rattle.law_terms.specs.Values.{Value, BoolValue, BitVecValue, StringValue, EntityValue, ExtensionValue, NoneValue, SomeValue, RecordValue, SetValue, Values, no_values, one_value, FieldValues, no_field_values, one_field_value}
+use Rattle.law_terms.specs.Values.{Value, BoolValue, BitVecValue, StringValue, EntityValue, ExtensionValue, NoneValue, SomeValue}
+use Rattle.law_terms.specs.Values.{RecordValue, SetValue, Values, no_values, one_value, FieldValues, no_field_values, one_field_value}
 
 -- lists of numbers by their first difference, a proper prefix first
 abbrev pub text_cmp : List ℕ → List ℕ → Ordering
@@ -76,7 +77,8 @@ abbrev mutual
   field_values_cmp no_field_values no_field_values = Equal
   field_values_cmp no_field_values (one_field_value b w gs) = Less
   field_values_cmp (one_field_value a v fs) no_field_values = Greater
-  field_values_cmp (one_field_value a v fs) (one_field_value b w gs) = ordering_then (ordering_then (text_cmp a b) (value_cmp v w)) (field_values_cmp fs gs)
+  field_values_cmp (one_field_value a v fs) (one_field_value b w gs) =
+      ordering_then (ordering_then (text_cmp a b) (value_cmp v w)) (field_values_cmp fs gs)
 
 -- equality of values, as a test
 abbrev pub value_eq : Value → Value → Bool

@@ -1,14 +1,23 @@
 //! Laws of terms, of what they mean and how they compare, and of numbered nodes, proved with no code.
-ghost use Rattle.law_terms.specs.Examples.{FaultRows, OperatorRows, OrderRows, TermRows};
-ghost use Rattle.law_terms.specs.Laws.{DefaultsAreInterpretations, FunctionEqualityIsDecided, OpEqualityIsDecided, OpOrderIsTotal, PartEqualityIsDecided, PartOrderIsTotal, PatternEqualityIsDecided, PatternOrderIsTotal, ReachedDecides, RestrictionAgrees, TermEqualityIsDecided, TermOrderIsTotal, TypeEqualityIsDecided, TypeOrderIsTotal, TypedTermsGetAttributes, TypedTermsHaveValues, Utf8KeepsOrder};
+ghost use Rattle.law_terms.specs.Rows.{FaultRows, OperatorRows, OrderRows, TermRows};
+ghost use Rattle.law_terms.specs.Laws.{DefaultsAreInterpretations, FunctionEqualityIsDecided};
+ghost use Rattle.law_terms.specs.Laws.{OpEqualityIsDecided, OpOrderIsTotal};
+ghost use Rattle.law_terms.specs.Laws.{PartEqualityIsDecided, PartOrderIsTotal};
+ghost use Rattle.law_terms.specs.Laws.{PatternEqualityIsDecided, PatternOrderIsTotal};
+ghost use Rattle.law_terms.specs.Laws.{ReachedDecides, RestrictionAgrees, TermEqualityIsDecided};
+ghost use Rattle.law_terms.specs.Laws.{TermOrderIsTotal, TypeEqualityIsDecided};
+ghost use Rattle.law_terms.specs.Laws.{TypeOrderIsTotal, TypedTermsGetAttributes};
+ghost use Rattle.law_terms.specs.Laws.{TypedTermsHaveValues, Utf8KeepsOrder};
 ghost use Rattle.law_terms.specs.Literals.{LiteralsAreTheirValues};
 ghost use Rattle.law_terms.specs.Patterns.{MatchingIsDecided};
 ghost use Rattle.law_terms.specs.Plain.{RoundTrip};
 ghost use Rattle.law_terms.specs.Shapes.{TypedTermsHaveShapes, ValuesAreShaped};
 ghost use Rattle.law_terms.specs.TermSets.{SortedTermsAscend};
 ghost use Rattle.law_terms.specs.ValueOrder.{EqualityIsDecided, OrderIsTotal};
-ghost use Rattle.law_terms.specs.NodeExamples.{NodeRows};
-ghost use Rattle.law_terms.specs.NodeLaws.{FittingNodesHaveMeanings, GraphsGrow, MeaningsDetermineParts, OlderMeaningsStay, PlacesDiffer, PlacesHaveMeanings, TheLastHasItsMeaning};
+ghost use Rattle.law_terms.specs.NodeRows.{NodeRows};
+ghost use Rattle.law_terms.specs.NodeLaws.{FittingNodesHaveMeanings, GraphsGrow};
+ghost use Rattle.law_terms.specs.NodeLaws.{MeaningsDetermineParts, OlderMeaningsStay, PlacesDiffer};
+ghost use Rattle.law_terms.specs.NodeLaws.{PlacesHaveMeanings, TheLastHasItsMeaning};
 
 /// A list of terms and its plain form give each other.
 pub fn plain_lists()

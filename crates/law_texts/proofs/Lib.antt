@@ -7,6 +7,7 @@ pub mod Numbers
 pub mod QuotedTexts
 pub mod Quotes
 pub mod Runs
+pub mod SameTexts
 pub mod Spans
 pub mod Strings
 pub mod Trees

@@ -1,6 +1,7 @@
 -- Digits and signs, and the numbers that they stand for: in the numerals of scripts (chapter 3, Lexicon) and in the texts of
 -- extension values.
-use Rattle.std.specs.Prelude.{ℕ, zero, suc, ◌+◌, ◌-◌, ◌*◌, ◌/◌, ◌%◌, ◌^◌, ℤ, pos, neg_ℤ, Bool, true, false, ◌&&◌, if◌then◌else◌, nat_le, codes, List, [], ◌∷◌}
+use Rattle.std.specs.Prelude.{ℕ, zero, suc, ◌+◌, ◌-◌, ◌*◌, ◌/◌, ◌%◌, ◌^◌, ℤ, pos, neg_ℤ, Bool, true, false, ◌&&◌, if◌then◌else◌, nat_le}
+use Rattle.std.specs.Prelude.{codes, List, [], ◌∷◌}
 use Rattle.std.specs.List.{fold, list_all}
 use Rattle.law_texts.specs.Characters.{is_digit}
 

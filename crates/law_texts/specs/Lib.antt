@@ -6,6 +6,7 @@ pub mod Lexicon
 pub mod LineTexts
 pub mod Options
 pub mod Outcomes
+pub mod Parts
 pub mod QuotedTexts
 pub mod Quoting
 pub mod Reading

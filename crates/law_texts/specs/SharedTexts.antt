@@ -1,5 +1,5 @@
 -- The bytes of texts that their holders share, and of several things one behind the other.
-use Rattle.std.specs.Prelude.{ℕ, map, List, [], ◌∷◌, ◌++◌}
+use Rattle.std.specs.Prelude.{ℕ, map, List, [], ◌∷◌, ◌++◌, IfOk, Result, ◌≡◌}
 use Rattle.std.specs.Rc.{rc_str_bytes}
 use Rattle.std.specs.declared.rc.RcStr.{RcStr}
 use Rattle.std.specs.declared.alloc.Global.{Global}
@@ -25,3 +25,7 @@ joined_behind bytes first (x ∷ xs) = first ++ joined_behind bytes (bytes x) xs
 abbrev pub joined : {X : Type 0} → (X → List ℕ) → List X → List ℕ
 joined bytes [] = []
 joined bytes (x ∷ xs) = joined_behind bytes (bytes x) xs
+
+-- On Ok a text was given that has these bytes.
+abbrev pub GivesText : {E : Type 0} → Result (RcStr Global) E → List ℕ → Type 0
+GivesText result bytes = IfOk result (λ text. rc_str_bytes text ≡ bytes)

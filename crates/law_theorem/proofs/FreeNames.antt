@@ -5,7 +5,7 @@ use Rattle.std.specs.List.{AllByRecursion, filter_map, cons_option}
 use Rattle.std.proofs.lemmas.Bool.{or_cases}
 use Rattle.std.proofs.lemmas.Slice.Eq.{bytes_eq-Decides}
 use Rattle.law_terms.specs.Plain.{PlainType, PlainFunction, PlainOp, UufOp, PlainTerm, Application, VariableTerm}
-use Rattle.law_terms.specs.Reached.{variable_of, function_of, function_of_op, reached_terms, reached_variables, reached_functions}
+use Rattle.law_terms.specs.Reached.{reached_variable, reached_function, function_of_op, reached_terms, reached_variables, reached_functions}
 use Rattle.law_scripts.specs.Script.{Entry, Constant, Function, Defined, Builds, Selects, State, is_in, names_of, look_up}
 use Rattle.law_scripts.specs.Sorts.{entries}
 use Rattle.law_scripts.specs.Value.{free_in, free_names}
@@ -90,12 +90,12 @@ module _ (s : Tables) (ts : List PlainTerm) where
   entry_reached : (n m : List ℕ) (y : Entry) (ds : List (List ℕ × Entry)) → IsOpenEntry s (reached_terms ts) m y → (is_in n (free_in ds) ≡ true → IsReached n) → is_in n (free_in ((m, y) ∷ ds)) ≡ true → IsReached n
   entry_reached n m (Constant sort) ds v again h = elim (or_cases (bytes_eq n m) (is_in n (free_in ds)) h) [
     | inl e ↦ (let q : n ≡ variable_name s v.id v.type = (bytes_eq-Decides n m).0 e ∙ v.named in
-        subst IsReached (sym q) (in_front (variable_name s v.id v.type) variables functions (occurs_named variable_of (variable_named s) (reached_terms ts) (VariableTerm v.id v.type) (v.id, v.type) refl v.reached)))
+        subst IsReached (sym q) (in_front (variable_name s v.id v.type) variables functions (occurs_named reached_variable (variable_named s) (reached_terms ts) (VariableTerm v.id v.type) (v.id, v.type) refl v.reached)))
     | inr e ↦ again e
   ]
   entry_reached n m (Function argument sort) ds v again h = elim (or_cases (bytes_eq n m) (is_in n (free_in ds)) h) [
     | inl e ↦ (let q : n ≡ function_name s v.function = (bytes_eq-Decides n m).0 e ∙ v.named in
-        subst IsReached (sym q) (in_back (function_name s v.function) variables functions (occurs_named function_of (function_name s) (reached_terms ts) (Application (UufOp v.function) v.arguments v.type) v.function refl v.reached)))
+        subst IsReached (sym q) (in_back (function_name s v.function) variables functions (occurs_named reached_function (function_name s) (reached_terms ts) (Application (UufOp v.function) v.arguments v.type) v.function refl v.reached)))
     | inr e ↦ again e
   ]
   entry_reached n m (Defined sort body) ds v again h = again h
@@ -141,7 +141,7 @@ abbrev IsLeft : State → List ℕ → Type 0
 IsLeft state n = (y : Entry) × IsFree y × (entries state n ≡ Some y)
 
 -- a term that brings a variable, or a function, is one
-open_variable : (s : Tables) (state : State) (t : PlainTerm) (v : List ℕ × PlainType) → variable_of t ≡ Some v → IsOpen s (entries state) t → IsLeft state (variable_named s v)
+open_variable : (s : Tables) (state : State) (t : PlainTerm) (v : List ℕ × PlainType) → reached_variable t ≡ Some v → IsOpen s (entries state) t → IsLeft state (variable_named s v)
 open_variable s state (VariableTerm id type) v e h = subst (λ (w : List ℕ × PlainType). IsLeft state (variable_named s w)) (inside (id, type) v e) (Constant (type_sort s type), tt, h)
   where
     inside : (v w : List ℕ × PlainType) → Some v ≡ Some w → v ≡ w
@@ -155,7 +155,7 @@ open_op s state (UufOp g) f e h = subst (λ (k : PlainFunction). IsLeft state (f
     inside g f e = ap (λ (o : Option PlainFunction). unwrap_or o g) e
 open_op s state op f e h = absurd (let z : None ≡ Some f = e in cc)
 
-open_function : (s : Tables) (state : State) (t : PlainTerm) (f : PlainFunction) → function_of t ≡ Some f → IsOpen s (entries state) t → IsLeft state (function_name s f)
+open_function : (s : Tables) (state : State) (t : PlainTerm) (f : PlainFunction) → reached_function t ≡ Some f → IsOpen s (entries state) t → IsLeft state (function_name s f)
 open_function s state (Application op ts type) f e h = open_op s state op f e h
 open_function s state t f e h = absurd (let z : None ≡ Some f = e in cc)
 
@@ -165,10 +165,10 @@ free_names_are s ts state h k n = (free_reached s ts (names_of state) h n, reach
   where
     reached_free : is_in n (reached_names s ts) ≡ true → is_in n (free_names state) ≡ true
     reached_free r = elim (in_either n (map (variable_named s) (reached_variables ts)) (map (function_name s) (reached_functions ts)) r) [
-      | inl e ↦ (let o = named_occurs variable_of (variable_named s) (reached_terms ts) n e in
+      | inl e ↦ (let o = named_occurs reached_variable (variable_named s) (reached_terms ts) n e in
           let y = open_variable s state o.0 o.1 o.2 (at_term (IsOpen s (entries state)) (reached_terms ts) o.0 k o.3) in
           found_free n y.0 (names_of state) y.1 (ap (entries state) o.4 ∙ y.2))
-      | inr e ↦ (let o = named_occurs function_of (function_name s) (reached_terms ts) n e in
+      | inr e ↦ (let o = named_occurs reached_function (function_name s) (reached_terms ts) n e in
           let y = open_function s state o.0 o.1 o.2 (at_term (IsOpen s (entries state)) (reached_terms ts) o.0 k o.3) in
           found_free n y.0 (names_of state) y.1 (ap (entries state) o.4 ∙ y.2))
     ]

@@ -10,7 +10,8 @@ use Rattle.std.proofs.lemmas.Slice.Eq.{bytes_eq-Decides}
 use Rattle.std.proofs.lemmas.Cmp.{nat_list_cmp_total, nat_cmp_total}
 use Rattle.std.specs.Ordering.{nat_cmp, ordering_reverse, is_eq, is_lt}
 use Rattle.std.specs.FinMap.{nat_cmp-IsAntisymmetric}
-use Rattle.law_theorem.proofs.Orderings.{less_is, nat_less}
+use Rattle.law_theorem.proofs.Orderings.{nat_less}
+use Rattle.law_terms.proofs.Sorted.{less-is}
 use Rattle.std.specs.declared.cmp.Ordering.{Ordering}
 use Rattle.std.specs.declared.cmp.Ordering.TheVariants.{Less, Equal, Greater}
 use Rattle.law_terms.specs.ValueOrder.{text_cmp, is_below, ascends}
@@ -68,9 +69,9 @@ behind x (y ∷ ys) z h g k =
     by (text_cmp y z) refl (λ e. behind y ys z (first_so (is_below text_cmp y ys) (ascends text_cmp ys) g) (second_so (is_below text_cmp y ys) (ascends text_cmp ys) g) (later_member y z ys e k))
   where
     by : (o : Ordering) → text_cmp y z ≡ o → (bytes_eq y z ≡ false → text_cmp y z ≡ Less) → text_cmp x z ≡ Less
-    by Less e r = nat_list_cmp_total.trans x y z (less_is (text_cmp x y) h) e
-    by Equal e r = ap (text_cmp x) (sym (text_same y z e)) ∙ less_is (text_cmp x y) h
-    by Greater e r = nat_list_cmp_total.trans x y z (less_is (text_cmp x y) h) (r (tests_same y z ∙ ap is_eq e))
+    by Less e r = nat_list_cmp_total.trans x y z (less-is (text_cmp x y) h) e
+    by Equal e r = ap (text_cmp x) (sym (text_same y z e)) ∙ less-is (text_cmp x y) h
+    by Greater e r = nat_list_cmp_total.trans x y z (less-is (text_cmp x y) h) (r (tests_same y z ∙ ap is_eq e))
 
 next_numbers : (m n : ℕ) → nat_cmp (suc m) (suc n) ≡ nat_cmp m n
 next_numbers m n = by (nat_cmp m n) refl

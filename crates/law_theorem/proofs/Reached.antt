@@ -4,7 +4,7 @@ use Rattle.std.specs.List.{AllByRecursion, filter_map, flat_map, cons_option}
 use Rattle.std.proofs.lemmas.List.Concat.{flat_map-append}
 use Rattle.std.proofs.lemmas.List.Elements.{filter_map-append}
 use Rattle.law_terms.specs.Plain.{PlainType, PlainFunction, UufOp, PlainTerm, Application, NoneTerm, LiteralTerm, RecordTerm, SetTerm, SomeTerm, VariableTerm, terms}
-use Rattle.law_terms.specs.Reached.{subterms, subterms_of_all, types_within, function_of, reached_terms, reached_functions, reached_types}
+use Rattle.law_terms.specs.Reached.{subterms, subterms_of_all, types_within, reached_function, reached_terms, reached_functions, reached_types}
 use Rattle.law_terms.specs.TypeValues.{Enums}
 use Rattle.law_terms.specs.Types.{type_of}
 use Rattle.law_terms.proofs.Soundness.{all-front, all-back}
@@ -52,7 +52,7 @@ module _ (ts more : List PlainTerm) where
   terms_new t h = subst (IsAmong t) (sym terms_joined) (in_back t (reached_terms ts) (reached_terms more) h)
 
   functions_joined : reached_functions (ts ++ more) ≡ reached_functions ts ++ reached_functions more
-  functions_joined = ap (filter_map function_of) terms_joined ∙ filter_map-append function_of (reached_terms ts) (reached_terms more)
+  functions_joined = ap (filter_map reached_function) terms_joined ∙ filter_map-append reached_function (reached_terms ts) (reached_terms more)
 
   pub functions_last : (f : PlainFunction) → IsAmong f (reached_functions ts) → IsAmong f (reached_functions (ts ++ more))
   functions_last f h = subst (IsAmong f) (sym functions_joined) (in_front f (reached_functions ts) (reached_functions more) h)
@@ -110,7 +110,7 @@ module _ (enums : Enums) (all : List PlainTerm) where
   -- what is reached is a key
   pub key : (t : PlainTerm) → IsAmong t (reached_terms all) → IsKey enums T F Y t
   key (Application (UufOp f) ts type) h =
-      let g : F f = in_filtered function_of (Application (UufOp f) ts type) (reached_terms all) f refl h in
+      let g : F f = in_filtered reached_function (Application (UufOp f) ts type) (reached_terms all) f refl h in
       let ys = functions_types f g in
       (h, terms_types (Application (UufOp f) ts type) h, (g, all-front Y (types_within f.argument) (types_within f.output) ys, all-back Y (types_within f.argument) (types_within f.output) ys))
   key (Application op ts type) h = (h, terms_types (Application op ts type) h, tt)

@@ -1,7 +1,7 @@
 -- Expressions without a head that may be left open apply no selector that is.
 use Rattle.std.proofs.Common.{◌≡◌, ℕ, Bool, true, false, not, ◌&&◌, cond, List, [], ◌∷◌, ◌++◌, refl, ap, ap₂, ◌∙◌, Option, Some, None}
 use Rattle.std.specs.Prelude.{codes, bytes_eq, take, drop, map}
-use Rattle.std.proofs.lemmas.Bool.{and_parts, and_from, false≢true, or_parts}
+use Rattle.std.proofs.lemmas.Bool.{and_parts, and_from, or_parts, not-true}
 use Rattle.law_numbers.specs.BitVectors.{bits_of}
 use Rattle.law_terms.specs.Plain.{PlainType, OptionType, BitVecType, BoolType, EntityType, ExtensionType, StringType, RecordType, SetType, PatternPart, Character, Wildcard, PlainExtension, DecimalOf, Ipv4Of, Ipv6Of, DatetimeOf, DurationOf, BitVecLiteral, BoolLiteral, EntityLiteral, ExtensionLiteral, StringLiteral, PlainTerm, Application, NoneTerm, LiteralTerm, RecordTerm, SetTerm, SomeTerm, VariableTerm, PlainTerms, no_terms, one_term, PlainFields, no_fields, one_field}
 use Rattle.law_texts.specs.Lexicon.{Number, Name, is_digit, some_all, number_in}
@@ -35,10 +35,6 @@ abbrev mutual
   pub each_plain : Expressions → Bool
   each_plain Nil = true
   each_plain (Cons e es) = is_plain e && each_plain es
-
-negated : (b : Bool) → not b ≡ true → b ≡ false
-negated true h = absurd (false≢true h)
-negated false h = refl
 
 never : (a : Bool) (o : OpenSelector) → cond (a && false) (Some o) None ≡ None
 never true o = refl
@@ -111,7 +107,7 @@ module _ (here : Entries) where
 
   plain_head_selects : (e : Expression) → is_plain_head e ≡ true → (es : Expressions) (sort : Option Expression) → shape_selection here (shape e es) sort ≡ []
   plain_head_selects (Leaf (Name f)) h Nil sort = refl
-  plain_head_selects (Leaf (Name f)) h (Cons e es) sort = head_selects f (negated (is_in f open_selectors) h) e es sort
+  plain_head_selects (Leaf (Name f)) h (Cons e es) sort = head_selects f (not-true (is_in f open_selectors) h) e es sort
   plain_head_selects (Node (Cons (Leaf (Name f)) fs)) h Nil sort = refl
   plain_head_selects (Node (Cons (Leaf (Name f)) fs)) h (Cons e es) sort = by (bytes_eq f (codes "_"))
     where

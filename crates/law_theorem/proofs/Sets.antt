@@ -22,7 +22,7 @@ use Rattle.law_texts.specs.Options.{◌>>=◌}
 use Rattle.law_scripts.specs.Value.{inserted, put_into}
 use Rattle.law_lines.specs.NameTables.{Tables}
 use Rattle.law_theorem.specs.Carry.{carry, carry_values}
-use Rattle.law_theorem.proofs.Orderings.{less_is}
+use Rattle.law_terms.proofs.Sorted.{less-is}
 use Rattle.law_theorem.proofs.Ordered.{keeps, same_values}
 
 -- ---- lists that ascend
@@ -33,11 +33,11 @@ sorted_ascending (v ∷ vs) h = ap (λ ws. insert_key value_cmp ws v) (sorted_as
   where
     first : (v : Value) (vs : List Value) → is_below value_cmp v vs ≡ true → insert_key value_cmp vs v ≡ v ∷ vs
     first v [] h = refl
-    first v (w ∷ ws) h = ap (λ o. match_ordering o (v ∷ w ∷ ws) (w ∷ ws) (w ∷ insert_key value_cmp ws v)) (less_is (value_cmp v w) h)
+    first v (w ∷ ws) h = ap (λ o. match_ordering o (v ∷ w ∷ ws) (w ∷ ws) (w ∷ insert_key value_cmp ws v)) (less-is (value_cmp v w) h)
 
 over : (x y : Value) (ys : List Value) → is_lt (value_cmp x y) ≡ true → is_below value_cmp y ys ≡ true → is_below value_cmp x ys ≡ true
 over x y [] h k = refl
-over x y (z ∷ ys) h k = ap is_lt (values_total.trans x y z (less_is (value_cmp x y) h) (less_is (value_cmp y z) k))
+over x y (z ∷ ys) h k = ap is_lt (values_total.trans x y z (less-is (value_cmp x y) h) (less-is (value_cmp y z) k))
 
 module _ (test : Value → Bool) where
   below_filtered : (x : Value) (ys : List Value) → is_below value_cmp x ys ≡ true → ascends value_cmp ys ≡ true → is_below value_cmp x (filter test ys) ≡ true

@@ -2,7 +2,9 @@
 use Rattle.std.specs.Prelude.{◌≡◌, ℕ, Bool, true, false, ◌&&◌, bytes_eq, codes, if◌then◌else◌, map, List, [], Option, Some, None, IsTrue, ⊤}
 use Rattle.std.specs.List.{AllByRecursion}
 use Rattle.std.specs.Option.{is_some, option_or}
-use Rattle.law_terms.specs.Plain.{IpAddrKind, PlainType, OptionType, BitVecType, BoolType, EntityType, ExtensionType, StringType, RecordType, SetType, PlainFunction, ExtensionOp, IpAddrV4Op, IpAddrV6Op, IpPrefixV4Op, IpPrefixV6Op, PlainOp, ExtOp, OptionGetOp, UufOp, PlainTerm, Application, VariableTerm}
+use Rattle.law_terms.specs.Plain.{IpAddrKind, PlainType, OptionType, BitVecType, BoolType, EntityType, ExtensionType, StringType}
+use Rattle.law_terms.specs.Plain.{RecordType, SetType, PlainFunction, ExtensionOp, IpAddrV4Op, IpAddrV6Op, IpPrefixV4Op, IpPrefixV6Op}
+use Rattle.law_terms.specs.Plain.{PlainOp, ExtOp, OptionGetOp, UufOp, PlainTerm, Application, VariableTerm}
 use Rattle.law_scripts.specs.ScriptValues.{ScriptValue}
 use Rattle.law_terms.specs.Interpretations.{IsInterpretation, Agree}
 use Rattle.law_terms.specs.Reached.{reached_terms, selector_of_extension}
@@ -39,7 +41,8 @@ wrapped_type e t = None
 
 -- the bitvector type whose sort is `(_ BitVec n)`, from its three parts
 abbrev pub width_type : (underscore bits width : Expression) → Option PlainType
-width_type (Leaf (Name a)) (Leaf (Name b)) (Leaf (Number n)) = if bytes_eq a (codes "_") && bytes_eq b (codes "BitVec") then Some (BitVecType n) else None
+width_type (Leaf (Name a)) (Leaf (Name b)) (Leaf (Number n)) =
+    if bytes_eq a (codes "_") && bytes_eq b (codes "BitVec") then Some (BitVecType n) else None
 width_type a b c = None
 
 -- the type whose sort an expression is, by the names in the tables, if it is one
@@ -73,8 +76,10 @@ carry_inside enums s I t = nothing_carried
 -- the selector of IP ranges with this name
 abbrev pub range_selector : List ℕ → Option ExtensionOp
 range_selector n =
-    if bytes_eq n (selector_name IpAddrV4Op) then Some IpAddrV4Op else (if bytes_eq n (selector_name IpAddrV6Op) then Some IpAddrV6Op
-    else (if bytes_eq n (selector_name IpPrefixV4Op) then Some IpPrefixV4Op else (if bytes_eq n (selector_name IpPrefixV6Op) then Some IpPrefixV6Op else None)))
+    if bytes_eq n (selector_name IpAddrV4Op) then Some IpAddrV4Op
+    else (if bytes_eq n (selector_name IpAddrV6Op) then Some IpAddrV6Op
+    else (if bytes_eq n (selector_name IpPrefixV4Op) then Some IpPrefixV4Op
+    else (if bytes_eq n (selector_name IpPrefixV6Op) then Some IpPrefixV6Op else None)))
 
 -- what a selector of IP ranges is given: the carried table of that operator
 abbrev pub carry_found_selector : Enums → Tables → Interpretation → Option ExtensionOp → script.Table
@@ -124,12 +129,15 @@ is_range_selector o = is_some (selector_of_extension o)
 
 -- J gives a selector a table of its sorts, for values of the other constructor.
 abbrev pub IsGivenRange : Tables → Entries → script.ScriptInterpretation → ExtensionOp → Bool → Type 0
-IsGivenRange s here J o true = IsTrue (is_table here (type_sort s ip_type) (type_sort s (extension_signature o).1) (J.selectors (selector_name o))) × IsTrue (are_others (selector_constructor o) (J.selectors (selector_name o)).pairs)
+IsGivenRange s here J o true =
+    IsTrue (is_table here (type_sort s ip_type) (type_sort s (extension_signature o).1) (J.selectors (selector_name o)))
+    × IsTrue (are_others (selector_constructor o) (J.selectors (selector_name o)).pairs)
 IsGivenRange s here J o false = ⊤
 
 -- J gives what an operator asks of it a value or a table of its sort: a function, `val` of none, or a selector of IP ranges.
 abbrev pub IsScriptGivenOp : Tables → Entries → script.ScriptInterpretation → PlainOp → PlainType → Type 0
-IsScriptGivenOp s here J (UufOp f) t = IsTrue (is_table here (type_sort s f.argument) (type_sort s f.output) (J.functions (function_name s f)))
+IsScriptGivenOp s here J (UufOp f) t =
+    IsTrue (is_table here (type_sort s f.argument) (type_sort s f.output) (J.functions (function_name s f)))
 IsScriptGivenOp s here J OptionGetOp t = IsTrue (has_sort_in here (type_sort s t) (J.options (option_sort (type_sort s t))))
 IsScriptGivenOp s here J (ExtOp o) t = IsGivenRange s here J o (is_range_selector o)
 IsScriptGivenOp s here J op t = ⊤
@@ -184,14 +192,16 @@ IsRangeNamed enums s here o false = ⊤
 
 -- what an operator asks of an interpretation has a name, and its types are declared
 abbrev pub IsOpNamed : Enums → Tables → Entries → PlainOp → PlainType → Type 0
-IsOpNamed enums s here (UufOp f) t = (name_of_function s f ≡ Some (function_name s f)) × TypeIsDeclared enums s here f.argument × TypeIsDeclared enums s here f.output
+IsOpNamed enums s here (UufOp f) t =
+    (name_of_function s f ≡ Some (function_name s f)) × TypeIsDeclared enums s here f.argument × TypeIsDeclared enums s here f.output
 IsOpNamed enums s here OptionGetOp t = TypeIsDeclared enums s here t × TypeIsNamed s t
 IsOpNamed enums s here (ExtOp o) t = IsRangeNamed enums s here o (is_range_selector o)
 IsOpNamed enums s here op t = ⊤
 
 -- what one term asks of an interpretation has a name, and its types are declared
 abbrev pub IsTermNamed : Enums → Tables → Entries → PlainTerm → Type 0
-IsTermNamed enums s here (VariableTerm id t) = (name_of_term s (VariableTerm id t) ≡ Some (variable_name s id t)) × TypeIsDeclared enums s here t
+IsTermNamed enums s here (VariableTerm id t) =
+    (name_of_term s (VariableTerm id t) ≡ Some (variable_name s id t)) × TypeIsDeclared enums s here t
 IsTermNamed enums s here (Application op ts t) = IsOpNamed enums s here op t
 IsTermNamed enums s here t = ⊤
 
@@ -205,20 +215,24 @@ pub record DeclaresReached (enums : Enums) (s : Tables) (here : Entries) (ts : L
 
 -- A carried interpretation gives each name a value or a table of its sort.
 abbrev pub CarriedInterpretationsHaveSorts : Type 0
-CarriedInterpretationsHaveSorts = (enums : Enums) (s : Tables) (here : Entries) (ts : List PlainTerm) (I : Interpretation) → DeclaresReached enums s here ts
+CarriedInterpretationsHaveSorts =
+    (enums : Enums) (s : Tables) (here : Entries) (ts : List PlainTerm) (I : Interpretation) → DeclaresReached enums s here ts
     → IsInterpretation enums ts I → GivesReachedNames s here ts (carry_interpretation enums s I)
 
 -- What comes back of a script's interpretation is an interpretation.
 abbrev pub BackIsInterpretation : Type 0
-BackIsInterpretation = (enums : Enums) (s : Tables) (here : Entries) (ts : List PlainTerm) (J : script.ScriptInterpretation) → DeclaresReached enums s here ts
+BackIsInterpretation =
+    (enums : Enums) (s : Tables) (here : Entries) (ts : List PlainTerm) (J : script.ScriptInterpretation) → DeclaresReached enums s here ts
     → GivesReachedNames s here ts J → IsInterpretation enums ts (back_interpretation enums s J)
 
 -- That, carried, gives each name what the script's interpretation gives.
 abbrev pub CarryingBackAgrees : Type 0
-CarryingBackAgrees = (enums : Enums) (s : Tables) (here : Entries) (ts : List PlainTerm) (J : script.ScriptInterpretation) → DeclaresReached enums s here ts
+CarryingBackAgrees =
+    (enums : Enums) (s : Tables) (here : Entries) (ts : List PlainTerm) (J : script.ScriptInterpretation) → DeclaresReached enums s here ts
     → GivesReachedNames s here ts J → AgreeOnNames s ts (carry_interpretation enums s (back_interpretation enums s J)) J
 
 -- What is carried comes back, as far as the terms reach it.
 abbrev pub InterpretationsComeBack : Type 0
-InterpretationsComeBack = (enums : Enums) (s : Tables) (here : Entries) (ts : List PlainTerm) (I : Interpretation) → DeclaresReached enums s here ts
+InterpretationsComeBack =
+    (enums : Enums) (s : Tables) (here : Entries) (ts : List PlainTerm) (I : Interpretation) → DeclaresReached enums s here ts
     → IsInterpretation enums ts I → Agree ts I (back_interpretation enums s (carry_interpretation enums s I))

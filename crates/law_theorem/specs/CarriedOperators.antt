@@ -1,7 +1,10 @@
 -- Operators of terms and of scripts give what is carried of one another.
 use Rattle.std.specs.Prelude.{◌≡◌, ℕ, ◌-◌, ◌^◌, ◌≤◌, Bool, true, false, codes, map, List, [], ◌∷◌, ◌++◌, Option, Some, IsTrue, ⊤}
 use Rattle.std.specs.List.{AllByRecursion}
-use Rattle.law_terms.specs.Plain.{IpAddrKind, DecimalKind, DatetimeKind, DurationKind, PlainType, OptionType, BitVecType, BoolType, ExtensionType, SetType, RecordType, AttributeTypes, ExtensionOp, DatetimeOfBitVecOp, DatetimeValOp, DecimalValOp, DurationOfBitVecOp, DurationValOp, IpAddrV4Op, IpAddrV6Op, IpIsV4Op, IpPrefixV4Op, IpPrefixV6Op, PlainOp, BvnegoOp, EqOp, ExtOp, OptionGetOp, RecordGetOp, UufOp}
+use Rattle.law_terms.specs.Plain.{IpAddrKind, DecimalKind, DatetimeKind, DurationKind, PlainType, OptionType, BitVecType, BoolType}
+use Rattle.law_terms.specs.Plain.{ExtensionType, SetType, RecordType, AttributeTypes, ExtensionOp, DatetimeOfBitVecOp, DatetimeValOp}
+use Rattle.law_terms.specs.Plain.{DecimalValOp, DurationOfBitVecOp, DurationValOp, IpAddrV4Op, IpAddrV6Op, IpIsV4Op, IpPrefixV4Op}
+use Rattle.law_terms.specs.Plain.{IpPrefixV6Op, PlainOp, BvnegoOp, EqOp, ExtOp, OptionGetOp, RecordGetOp, UufOp}
 use Rattle.law_terms.specs.Values.{Value}
 use Rattle.law_scripts.specs.ScriptValues.{ScriptValue, BitsOf, SetOf, ConstructorOf, no_script_values}
 use Rattle.law_terms.specs.Types.{result_type, attribute_in, extension_signature}
@@ -41,14 +44,18 @@ is_script_operator op = true
 
 -- An operator at carried values gives the carried value of what it gives.
 abbrev pub OperatorsCommute : Type 0
-OperatorsCommute = (enums : Enums) (s : Tables) (I : Interpretation) (op : PlainOp) (tys : List PlainType) (vs : List Value) (ty : PlainType) → AreEnums enums
+OperatorsCommute =
+    (enums : Enums) (s : Tables) (I : Interpretation) (op : PlainOp) (tys : List PlainType) (vs : List Value) (ty : PlainType) →
+    AreEnums enums
     → IsTrue (is_script_operator op) → result_type op tys ≡ Some ty → AreValues enums tys vs
     → operator_value op (carry_each enums s tys vs) ≡ Some (carry enums s ty (apply I op ty vs))
 
 -- `bvnego` is written as an equality with the least number of its width.
 abbrev pub NegationsCommute : Type 0
-NegationsCommute = (enums : Enums) (s : Tables) (I : Interpretation) (n : ℕ) (v : Value) → AreEnums enums → 1 ≤ n → IsValue enums (BitVecType n) v
-    → operator_value EqOp (carry enums s (BitVecType n) v ∷ BitsOf n (2 ^ (n - 1)) ∷ []) ≡ Some (carry enums s BoolType (apply I BvnegoOp BoolType (v ∷ [])))
+NegationsCommute =
+    (enums : Enums) (s : Tables) (I : Interpretation) (n : ℕ) (v : Value) → AreEnums enums → 1 ≤ n → IsValue enums (BitVecType n) v
+    → operator_value EqOp (carry enums s (BitVecType n) v ∷ BitsOf n (2 ^ (n - 1)) ∷ [])
+    ≡ Some (carry enums s BoolType (apply I BvnegoOp BoolType (v ∷ [])))
 
 -- Elements that are put into the empty set make the carried set.
 abbrev pub InsertionsCommute : Type 0
@@ -57,15 +64,21 @@ InsertionsCommute = (enums : Enums) (s : Tables) (t : PlainType) (vs : List Valu
 
 -- The selector of an attribute gives the carried value of the attribute.
 abbrev pub AttributesAreSelected : Type 0
-AttributesAreSelected = (enums : Enums) (s : Tables) (j : script.ScriptInterpretation) (n x d : List ℕ) (ps : List (List ℕ)) (sort : Option Expression) (attributes : AttributeTypes) (t : PlainType) (v : Value)
+AttributesAreSelected =
+    (enums : Enums) (s : Tables) (j : script.ScriptInterpretation) (n x d : List ℕ) (ps : List (List ℕ)) (sort : Option Expression)
+    (attributes : AttributeTypes) (t : PlainType) (v : Value)
     → IsValue enums (RecordType attributes) v → attribute_in x attributes ≡ Some t
-    → selected j n d ps (type_name s (RecordType attributes)) (place_of x (attribute_names attributes)) sort (carry enums s (RecordType attributes) v) ≡ Some (carry enums s t (attribute_value x v))
+    → selected j n d ps (type_name s (RecordType attributes)) (place_of x (attribute_names attributes)) sort
+    (carry enums s (RecordType attributes) v) ≡ Some (carry enums s t (attribute_value x v))
 
 -- `val` gives what is inside, or what the interpretation has for none.
 abbrev pub OptionsAreSelected : Type 0
-OptionsAreSelected = (enums : Enums) (s : Tables) (I : Interpretation) (j : script.ScriptInterpretation) (p : List ℕ) (sort : Expression) (t : PlainType) (v : Value)
+OptionsAreSelected =
+    (enums : Enums) (s : Tables) (I : Interpretation) (j : script.ScriptInterpretation) (p : List ℕ) (sort : Expression) (t : PlainType)
+    (v : Value)
     → IsValue enums (OptionType t) v → j.options sort ≡ carry enums s t (I.inside_none t)
-    → selected j (codes "val") (codes "Option") (p ∷ []) (codes "some") 0 (Some sort) (carry enums s (OptionType t) v) ≡ Some (carry enums s t (value_inside (I.inside_none t) v))
+    → selected j (codes "val") (codes "Option") (p ∷ []) (codes "some") 0 (Some sort) (carry enums s (OptionType t) v)
+    ≡ Some (carry enums s t (value_inside (I.inside_none t) v))
 
 -- a table with all its pairs
 abbrev pub carry_table : Enums → Tables → (argument output : PlainType) → Table → script.Table
@@ -122,13 +135,24 @@ AreRanges enums table = AllByRecursion (λ e. IsValue enums (ExtensionType IpAdd
 
 -- A selector of an extension type gives the carried value, at the other family that of the interpretation's table.
 abbrev pub ExtensionsAreSelected : Type 0
-ExtensionsAreSelected = (enums : Enums) (s : Tables) (I : Interpretation) (j : script.ScriptInterpretation) (o : ExtensionOp) (sort : Expression) (v : Value) → AreEnums enums
-    → IsTrue (is_selector o) → IsValue enums (extension_signature o).0 v → AreRanges enums (I.other_family o) → j.selectors (selector_name o) ≡ carry_selector enums s I o
-    → selected j (selector_name o) (selector_datatype o) [] (selector_constructor o) (selector_place o) (Some sort) (carry enums s (extension_signature o).0 v) ≡ Some (carry enums s (extension_signature o).1 (apply_extension I o v))
+ExtensionsAreSelected =
+    (enums : Enums) (s : Tables) (I : Interpretation) (j : script.ScriptInterpretation) (o : ExtensionOp) (sort : Expression) (v : Value) →
+    AreEnums enums
+    → IsTrue (is_selector o) → IsValue enums (extension_signature o).0 v → AreRanges enums (I.other_family o) →
+    j.selectors (selector_name o) ≡ carry_selector enums s I o
+    → selected j (selector_name o) (selector_datatype o) [] (selector_constructor o) (selector_place o) (Some sort)
+    (carry enums s (extension_signature o).0 v) ≡ Some (carry enums s (extension_signature o).1 (apply_extension I o v))
 
 -- The constructors of datetimes and durations, and the test of the family.
 abbrev pub ConstructorsCommute : Type 0
-ConstructorsCommute = (enums : Enums) (s : Tables) (I : Interpretation) (v : Value) (d : List ℕ) (ps : List (List ℕ)) (place : ℕ) (fields : List Expression)
-    → (IsValue enums (BitVecType 64) v → ConstructorOf 0 (kind_name DatetimeKind) (alone (carry enums s (BitVecType 64) v)) ≡ carry enums s (ExtensionType DatetimeKind) (apply_extension I DatetimeOfBitVecOp v))
-    × (IsValue enums (BitVecType 64) v → ConstructorOf 0 (kind_name DurationKind) (alone (carry enums s (BitVecType 64) v)) ≡ carry enums s (ExtensionType DurationKind) (apply_extension I DurationOfBitVecOp v))
-    × (IsValue enums (ExtensionType IpAddrKind) v → is_built (Some (Builds d ps place fields)) v4_name (carry enums s (ExtensionType IpAddrKind) v) ≡ Some (carry enums s BoolType (apply_extension I IpIsV4Op v)))
+ConstructorsCommute =
+    (enums : Enums) (s : Tables) (I : Interpretation) (v : Value) (d : List ℕ) (ps : List (List ℕ)) (place : ℕ) (fields : List Expression)
+    → (IsValue enums (BitVecType 64) v →
+    ConstructorOf 0 (kind_name DatetimeKind) (alone (carry enums s (BitVecType 64) v))
+    ≡ carry enums s (ExtensionType DatetimeKind) (apply_extension I DatetimeOfBitVecOp v))
+    × (IsValue enums (BitVecType 64) v →
+    ConstructorOf 0 (kind_name DurationKind) (alone (carry enums s (BitVecType 64) v))
+    ≡ carry enums s (ExtensionType DurationKind) (apply_extension I DurationOfBitVecOp v))
+    × (IsValue enums (ExtensionType IpAddrKind) v →
+    is_built (Some (Builds d ps place fields)) v4_name (carry enums s (ExtensionType IpAddrKind) v)
+    ≡ Some (carry enums s BoolType (apply_extension I IpIsV4Op v)))

@@ -1,10 +1,14 @@
 -- Values of terms carried to values of a script, and back.
 use Rattle.std.specs.Prelude.{ℕ, zero, suc, pos, false, if◌then◌else◌, bytes_eq, codes, chars, map, List, [], ◌∷◌, Option, Some, None}
 use Rattle.law_numbers.specs.BitVectors.{bits_of, signed}
-use Rattle.law_terms.specs.Plain.{ExtensionKind, IpAddrKind, DecimalKind, DatetimeKind, DurationKind, PlainType, OptionType, BitVecType, BoolType, EntityType, ExtensionType, StringType, RecordType, SetType, AttributeTypes, attribute, PlainExtension, DecimalOf, Ipv4Of, Ipv6Of, DatetimeOf, DurationOf}
-use Rattle.law_terms.specs.Values.{Value, BoolValue, BitVecValue, StringValue, EntityValue, ExtensionValue, NoneValue, SomeValue, RecordValue, SetValue, Values, no_values, one_value, FieldValues, no_field_values, one_field_value}
+use Rattle.law_terms.specs.Plain.{ExtensionKind, IpAddrKind, DecimalKind, DatetimeKind, DurationKind, PlainType, OptionType, BitVecType}
+use Rattle.law_terms.specs.Plain.{BoolType, EntityType, ExtensionType, StringType, RecordType, SetType, AttributeTypes, attribute}
+use Rattle.law_terms.specs.Plain.{PlainExtension, DecimalOf, Ipv4Of, Ipv6Of, DatetimeOf, DurationOf}
+use Rattle.law_terms.specs.Values.{Value, BoolValue, BitVecValue, StringValue, EntityValue, ExtensionValue, NoneValue, SomeValue}
+use Rattle.law_terms.specs.Values.{RecordValue, SetValue, Values, no_values, one_value, FieldValues, no_field_values, one_field_value}
 use Rattle.law_terms.specs.TypeValues.{Enums, members_of}
-use Rattle.law_scripts.specs.ScriptValues.{ScriptValue, TruthOf, BitsOf, TextOf, ConstructorOf, SetOf, ScriptValues, no_script_values, one_script_value}
+use Rattle.law_scripts.specs.ScriptValues.{ScriptValue, TruthOf, BitsOf, TextOf, ConstructorOf, SetOf, ScriptValues, no_script_values}
+use Rattle.law_scripts.specs.ScriptValues.{one_script_value}
 use Rattle.law_lines.specs.EntryNames.{place_of, kind_name, v4_name, v6_name, enum_member}
 use Rattle.law_lines.specs.NameTables.{Tables}
 use Rattle.law_lines.specs.Naming.{type_name}
@@ -143,5 +147,6 @@ abbrev mutual
 
   -- the values of a record in order, each taken back along its attribute's type
   pub back_fields : Enums → AttributeTypes → ScriptValues → FieldValues
-  back_fields enums (attribute a t attributes) (one_script_value v vs) = one_field_value a (back enums t v) (back_fields enums attributes vs)
+  back_fields enums (attribute a t attributes) (one_script_value v vs) =
+      one_field_value a (back enums t v) (back_fields enums attributes vs)
   back_fields enums x vs = no_field_values

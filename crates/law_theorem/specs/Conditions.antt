@@ -23,7 +23,8 @@ PlacesAreFound = (i : List ℕ) (ms : List (List ℕ)) → nat_lt (place_of i ms
 
 -- the place of an attribute is one in the record type where some attribute has this name
 abbrev pub AttributesAreFound : Type 0
-AttributesAreFound = (a : List ℕ) (x : AttributeTypes) → nat_lt (place_of a (attribute_names x)) (length (attribute_names x)) ≡ is_some (attribute_in a x)
+AttributesAreFound =
+    (a : List ℕ) (x : AttributeTypes) → nat_lt (place_of a (attribute_names x)) (length (attribute_names x)) ≡ is_some (attribute_in a x)
 
 -- ---- terms
 
@@ -33,11 +34,14 @@ FormedTypesAreEncodable = (enums : Enums) (t : PlainType) → type_fault enums t
 
 -- A term that is typed and formed and has no fault can be encoded.
 abbrev pub TypedTermsAreEncodable : Type 0
-TypedTermsAreEncodable = (enums : Enums) (t : PlainTerm) → IsTrue (typed t) → IsFormed t → first_fault enums (t ∷ []) ≡ None → IsEncodable enums t
+TypedTermsAreEncodable =
+    (enums : Enums) (t : PlainTerm) → IsTrue (typed t) → IsFormed t → first_fault enums (t ∷ []) ≡ None → IsEncodable enums t
 
 -- Terms that are typed and formed and have no fault can be encoded.
 abbrev pub TypedListsAreEncodable : Type 0
-TypedListsAreEncodable = (enums : Enums) (ts : List PlainTerm) → AreTyped ts → AllByRecursion IsFormed ts → first_fault enums ts ≡ None → AreEncodable enums (terms ts)
+TypedListsAreEncodable =
+    (enums : Enums) (ts : List PlainTerm) → AreTyped ts → AllByRecursion IsFormed ts → first_fault enums ts ≡ None →
+    AreEncodable enums (terms ts)
 
 -- Conditions: typed Boolean terms, formed and without fault.
 pub record AreConditions (enums : Enums) (ts : List PlainTerm) : Type 0 where

@@ -22,7 +22,8 @@ BuildsRightly d ps cs c x = ⊤
 
 -- Where the constructors are declared, and nothing else builds values of the datatype, it is declared as carrying asks.
 abbrev pub DatatypesAreDeclared : Type 0
-DatatypesAreDeclared = (d : List ℕ) (ps : List (List ℕ)) (cs : List Constructor) (names : List (List ℕ × Entry)) → Declares (λ c. look_up c names) d ps 0 cs
+DatatypesAreDeclared =
+    (d : List ℕ) (ps : List (List ℕ)) (cs : List Constructor) (names : List (List ℕ × Entry)) → Declares (λ c. look_up c names) d ps 0 cs
     → AllByRecursion (λ p. BuildsRightly d ps (shown cs) p.0 p.1) names → IsDatatype (λ c. look_up c names) d ps (shown cs)
 
 -- no entry builds values of the datatype
@@ -33,7 +34,8 @@ BuildsOther d x = ⊤
 -- So it is of a datatype whose line is obeyed where nothing built its values before.
 abbrev pub NewDatatypesAreDeclared : Type 0
 NewDatatypesAreDeclared = (d : List ℕ) (ps : List (List ℕ)) (cs : List Constructor) (s : State) → are_new s (names_in cs) ≡ true
-    → AllByRecursion (λ p. BuildsOther d p.1) (names_of s) → IsDatatype (entries (with_sort d (length ps) (with_names (constructors_named d ps 0 cs s.last.names) s))) d ps (shown cs)
+    → AllByRecursion (λ p. BuildsOther d p.1) (names_of s) →
+    IsDatatype (entries (with_sort d (length ps) (with_names (constructors_named d ps 0 cs s.last.names) s))) d ps (shown cs)
 
 -- ---- an example: options and an enum type
 
@@ -51,8 +53,13 @@ color_declared = record { name = codes "E0_m0"; selectors = [] } ∷ record { na
 
 -- the state that these two declarations come to
 abbrev pub color_state : State
-color_state = unwrap_or (run (DeclareDatatype (codes "Option") (codes "X" ∷ []) option_declared ∷ DeclareDatatype (codes "E0") [] color_declared ∷ []) start) start
+color_state =
+    unwrap_or
+    (run (DeclareDatatype (codes "Option") (codes "X" ∷ []) option_declared ∷ DeclareDatatype (codes "E0") [] color_declared ∷ []) start)
+    start
 
 -- That state declares options of this enum type as carrying asks.
 abbrev pub ColorsAreDeclared : Type 0
-ColorsAreDeclared = AreEnums colors × DeclaresOption (entries color_state) × TypeIsDeclared colors color_tables (entries color_state) (OptionType (EntityType (codes "Color")))
+ColorsAreDeclared =
+    AreEnums colors × DeclaresOption (entries color_state)
+    × TypeIsDeclared colors color_tables (entries color_state) (OptionType (EntityType (codes "Color")))

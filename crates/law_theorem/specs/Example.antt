@@ -26,13 +26,17 @@ pub record NegationIsItsScript : Type 0 where
   pub bytes : Negation
   pub headline : Headline [] (names [] (not_b ∷ [])) (not_b ∷ []) (text [] (not_b ∷ []))
   -- The models are exactly the script's interpretations that give t0 the value false,
-  pub models : (J : ScriptInterpretation) → IsScriptInterpretation J headline.state → IsModel J headline.state ↔ (J.constants (codes "t0") ≡ TruthOf false)
+  pub models : (J : ScriptInterpretation) → IsScriptInterpretation J headline.state →
+      IsModel J headline.state ↔ (J.constants (codes "t0") ≡ TruthOf false)
   -- and the term is true in exactly the interpretations that give b the value false.
-  pub true_in : (I : Interpretation) → IsInterpretation [] (not_b ∷ []) I → AreTrue I (not_b ∷ []) ↔ (I.variable (codes "b") BoolType ≡ BoolValue false)
+  pub true_in : (I : Interpretation) → IsInterpretation [] (not_b ∷ []) I →
+      AreTrue I (not_b ∷ []) ↔ (I.variable (codes "b") BoolType ≡ BoolValue false)
   -- Its one free name is t0, and b goes there and comes back from there.
   pub free : (n : List ℕ) → IsTrue (is_in n (free_names headline.state)) ↔ IsTrue (is_in n (codes "t0" ∷ []))
-  pub goes : (I : Interpretation) → I.variable (codes "b") BoolType ≡ BoolValue true → (carry_interpretation [] (names [] (not_b ∷ [])) I).constants (codes "t0") ≡ TruthOf true
-  pub comes : (J : ScriptInterpretation) → J.constants (codes "t0") ≡ TruthOf true → (back_interpretation [] (names [] (not_b ∷ [])) J).variable (codes "b") BoolType ≡ BoolValue true
+  pub goes : (I : Interpretation) → I.variable (codes "b") BoolType ≡ BoolValue true →
+      (carry_interpretation [] (names [] (not_b ∷ [])) I).constants (codes "t0") ≡ TruthOf true
+  pub comes : (J : ScriptInterpretation) → J.constants (codes "t0") ≡ TruthOf true →
+      (back_interpretation [] (names [] (not_b ∷ [])) J).variable (codes "b") BoolType ≡ BoolValue true
   -- The texts of two terms are these in this order, and no fewer.
   pub in_order : AreTexts (names [] (not_b ∷ [])) (not_b ∷ bool_variable (codes "b") ∷ []) (name (codes "t1") ∷ name (codes "t0") ∷ [])
   pub turned : AreTexts (names [] (not_b ∷ [])) (not_b ∷ bool_variable (codes "b") ∷ []) (name (codes "t0") ∷ name (codes "t1") ∷ []) → ⊥
@@ -41,4 +45,5 @@ pub record NegationIsItsScript : Type 0 where
   pub one_name : HasDistinctNames {K = ℕ} ((1, codes "t0") ∷ (2, codes "t0") ∷ []) → ⊥
   -- An expression has a term's value where the two truths are one.
   pub worth : (I : Interpretation) (J : ScriptInterpretation) → HaveTermValues I J start (true_term ∷ []) (name (codes "true") ∷ [])
-  pub other_worth : (I : Interpretation) (J : ScriptInterpretation) → HaveTermValues I J start (true_term ∷ []) (name (codes "false") ∷ []) → ⊥
+  pub other_worth : (I : Interpretation) (J : ScriptInterpretation) →
+      HaveTermValues I J start (true_term ∷ []) (name (codes "false") ∷ []) → ⊥

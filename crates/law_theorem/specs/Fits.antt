@@ -2,17 +2,20 @@
 -- that this is kept by each line that is stated, and is all that the main theorem needs.
 use Rattle.std.specs.Prelude.{◌≡◌, ℕ, Bool, true, false, nat_lt, codes, length, map, List, [], ◌∷◌, ◌++◌, Option, Some, None, ⊤}
 use Rattle.std.specs.List.{AllByRecursion}
-use Rattle.law_terms.specs.Plain.{PlainType, EntityType, PlainFunction, UufOp, EntityLiteral, ExtensionLiteral, PlainTerm, Application, LiteralTerm, VariableTerm, PlainTerms}
+use Rattle.law_terms.specs.Plain.{PlainType, EntityType, PlainFunction, UufOp, EntityLiteral, ExtensionLiteral, PlainTerm, Application}
+use Rattle.law_terms.specs.Plain.{LiteralTerm, VariableTerm, PlainTerms}
 use Rattle.law_terms.specs.Reached.{reached_terms, reached_functions, reached_types}
 use Rattle.law_terms.specs.Faults.{term_fault}
 use Rattle.law_terms.specs.Typing.{typed}
 use Rattle.law_terms.specs.TypeValues.{Enums, members_of, AreEnums}
 use Rattle.law_texts.specs.Reading.{Expression}
-use Rattle.law_scripts.specs.Script.{Command, SetLogic, CheckSat, GetModel, Entry, Constant, Function, Defined, Level, State, start, step, names_of, assertions_of}
+use Rattle.law_scripts.specs.Script.{Command, SetLogic, CheckSat, GetModel, Entry, Constant, Function, Defined, Level, State, start, step}
+use Rattle.law_scripts.specs.Script.{names_of, assertions_of}
 use Rattle.law_scripts.specs.Written.{IsLine, IsOpenScript}
 use Rattle.law_lines.specs.Line.{spelled_lines}
 use Rattle.law_lines.specs.EntryNames.{place_of, enum_member, stated_type_name, stated_function_name}
-use Rattle.law_lines.specs.Lines.{application_rendering, AsFalse, Call, PushCall, PopCall, EncodeCall, Encoding, encode, lines_of_call, lines_of_calls}
+use Rattle.law_lines.specs.Lines.{application_rendering, AsFalse, Call, PushCall, PopCall, EncodeCall, Encoding, encode, lines_of_call}
+use Rattle.law_lines.specs.Lines.{lines_of_calls}
 use Rattle.law_lines.specs.NameTables.{Tables, no_names, name_of_term, name_of_type, name_of_function}
 use Rattle.law_lines.specs.Entries.{EachEntry, TypeHasEntries, AreNumbered}
 use Rattle.law_lines.specs.TableGrowth.{AreDrawn}
@@ -57,7 +60,8 @@ popped_stages (y ∷ below) x = record { now = y; below = below; begun = x.begun
 abbrev pub stages_after : Enums → Call → Stages → Stages
 stages_after enums PushCall x = record { now = x.now; below = x.now ∷ x.below; begun = true }
 stages_after enums PopCall x = popped_stages x.below x
-stages_after enums (EncodeCall ts) x = record { now = record { tables = (encode enums ts x.now.tables).tables; terms = x.now.terms ++ ts }; below = x.below; begun = true }
+stages_after enums (EncodeCall ts) x =
+    record { now = record { tables = (encode enums ts x.now.tables).tables; terms = x.now.terms ++ ts }; below = x.below; begun = true }
 
 -- what calls, one after the other, make of stages
 abbrev pub stages_after_calls : Enums → List Call → Stages → Stages
@@ -77,7 +81,9 @@ pub record KeysAreReached (ts : List PlainTerm) (s : Tables) : Type 0 where
 -- a member of an enum type is the constructor of its place
 abbrev pub IsMemberName : Option (List (List ℕ)) → Tables → (type id n : List ℕ) → Type 0
 IsMemberName None s type id n = ⊤
-IsMemberName (Some members) s type id n = (name_of_type s (EntityType type) ≡ Some (type_name s (EntityType type))) × (n ≡ enum_member members (type_name s (EntityType type)) id) × (nat_lt (place_of id members) (length members) ≡ true)
+IsMemberName (Some members) s type id n =
+    (name_of_type s (EntityType type) ≡ Some (type_name s (EntityType type))) × (n ≡ enum_member members (type_name s (EntityType type)) id)
+    × (nat_lt (place_of id members) (length members) ≡ true)
 
 -- what is not drawn is a member of an enum type
 abbrev pub IsNamedRightly : Enums → Tables → PlainTerm → List ℕ → Type 0
@@ -203,7 +209,8 @@ DrawnNamesDiffer = (enums : Enums) (s : Tables) → NamesAreDrawn enums s → Is
 
 -- Wherever a text and stages fit, the script's state represents the terms that are encoded at its levels, in order.
 abbrev pub FittingTextsRepresent : Type 0
-FittingTextsRepresent = (enums : Enums) (text : List ℕ) (x : Stages) (f : Fits enums text x) → Represents enums x.now.tables x.now.terms f.state
+FittingTextsRepresent =
+    (enums : Enums) (text : List ℕ) (x : Stages) (f : Fits enums text x) → Represents enums x.now.tables x.now.terms f.state
 
 -- typed, and without fault
 abbrev pub IsSoundTerm : Enums → PlainTerm → Type 0
@@ -224,7 +231,8 @@ CallsKeepFit = (enums : Enums) (text : List ℕ) (x : Stages) (c : Call) → Fit
 
 -- the lines of a list of calls keep that a text and stages fit
 abbrev pub CallListsKeepFit : Type 0
-CallListsKeepFit = (enums : Enums) (text : List ℕ) (x : Stages) (cs : List Call) → Fits enums text x → AreCallsOfConditions enums cs (encoding_of x)
+CallListsKeepFit =
+    (enums : Enums) (text : List ℕ) (x : Stages) (cs : List Call) → Fits enums text x → AreCallsOfConditions enums cs (encoding_of x)
     → Fits enums (text ++ spelled_lines (lines_of_calls enums cs (encoding_of x))) (stages_after_calls enums cs x)
 
 -- a command that leaves each state as it is
@@ -237,7 +245,9 @@ TheseAreIdle = IsIdle CheckSat × IsIdle GetModel × IsIdle (SetLogic (codes "AL
 
 -- a line of a command that leaves each state as it is keeps that a text and stages fit
 abbrev pub IdleLinesKeepFit : Type 0
-IdleLinesKeepFit = (enums : Enums) (text line : List ℕ) (x : Stages) (c : Command) → Fits enums text x → IsIdle c → IsLine line (c ∷ []) → Fits enums (text ++ line) x
+IdleLinesKeepFit =
+    (enums : Enums) (text line : List ℕ) (x : Stages) (c : Command) → Fits enums text x → IsIdle c → IsLine line (c ∷ []) →
+    Fits enums (text ++ line) x
 
 -- a comment keeps that a text and stages fit
 abbrev pub CommentsKeepFit : Type 0

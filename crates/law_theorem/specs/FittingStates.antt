@@ -24,16 +24,22 @@ OptionIsDeclared = (enums : Enums) (s : Tables) (state : State) → Fit enums s 
 
 -- A type whose parts have names is declared.
 abbrev pub NamedTypesAreDeclared : Type 0
-NamedTypesAreDeclared = (enums : Enums) (s : Tables) (state : State) (t : PlainType) → Fit enums s state → IsEncodableType enums t → TypeHasEntries s t → TypeIsDeclared enums s (entries state) t
+NamedTypesAreDeclared =
+    (enums : Enums) (s : Tables) (state : State) (t : PlainType) → Fit enums s state → IsEncodableType enums t → TypeHasEntries s t →
+    TypeIsDeclared enums s (entries state) t
 
 -- What encodable terms that have texts reach is named, and its types are declared.
 abbrev pub TermsAreNamed : Type 0
-TermsAreNamed = (enums : Enums) (s : Tables) (state : State) (ts : List PlainTerm) → Fit enums s state → AreEncodable enums (terms ts) → AllByRecursion (λ t. IsSome (text_of s t)) ts
+TermsAreNamed =
+    (enums : Enums) (s : Tables) (state : State) (ts : List PlainTerm) → Fit enums s state → AreEncodable enums (terms ts) →
+    AllByRecursion (λ t. IsSome (text_of s t)) ts
     → AllByRecursion (IsTermNamed enums s (entries state)) (reached_terms ts)
 
 -- A state that fits tables with texts of encodable terms declares what they reach.
 abbrev pub ReachedIsDeclared : Type 0
-ReachedIsDeclared = (enums : Enums) (s : Tables) (ts : List PlainTerm) (state : State) → Fit enums s state → AreEncodable enums (terms ts) → AreEnums enums → IsOneToOne s
+ReachedIsDeclared =
+    (enums : Enums) (s : Tables) (ts : List PlainTerm) (state : State) → Fit enums s state → AreEncodable enums (terms ts) →
+    AreEnums enums → IsOneToOne s
     → AllByRecursion (λ t. IsSome (text_of s t)) ts → DeclaresReached enums s (entries state) ts
 
 -- ---- free names
@@ -51,12 +57,15 @@ IsOpen s here t = ⊤
 
 -- Where a state fits tables, the variables and functions that the terms reach are declared with their sorts, without bodies.
 abbrev pub ReachedAreOpen : Type 0
-ReachedAreOpen = (enums : Enums) (s : Tables) (state : State) (ts : List PlainTerm) → Fit enums s state → DeclaresReached enums s (entries state) ts
+ReachedAreOpen =
+    (enums : Enums) (s : Tables) (state : State) (ts : List PlainTerm) → Fit enums s state → DeclaresReached enums s (entries state) ts
     → AllByRecursion (IsOpen s (entries state)) (reached_terms ts)
 
 -- What is declared without a body is a variable or a function that is reached, with its sort.
 abbrev pub NamesAreOpen : Type 0
-NamesAreOpen = (enums : Enums) (x : Stage) (state : State) → FitsAt enums x state → AllByRecursion (λ p. IsOpenEntry x.tables (reached_terms x.terms) p.0 p.1) (names_of state)
+NamesAreOpen =
+    (enums : Enums) (x : Stage) (state : State) → FitsAt enums x state →
+    AllByRecursion (λ p. IsOpenEntry x.tables (reached_terms x.terms) p.0 p.1) (names_of state)
 
 -- Both, where a stage fits.
 abbrev pub FittingStagesDeclare : Type 0
@@ -67,7 +76,8 @@ FittingStagesDeclare = (enums : Enums) (x : Stage) (state : State) → AreEnums 
 
 -- An assertion applies no selector, since it is a name or a literal.
 abbrev pub AssertionsSelectNothing : Type 0
-AssertionsSelectNothing = (enums : Enums) (x : Stage) (state : State) → FitsAt enums x state → selections_in (entries state) (assertions_of state) ≡ []
+AssertionsSelectNothing =
+    (enums : Enums) (x : Stage) (state : State) → FitsAt enums x state → selections_in (entries state) (assertions_of state) ≡ []
 
 -- J gives a function a table of its sorts.
 abbrev pub IsOpGiven : Tables → Entries → ScriptInterpretation → PlainOp → Type 0
@@ -82,5 +92,7 @@ IsNameGiven s here J t = ⊤
 
 -- An interpretation of the script does so for what is reached.
 abbrev pub InterpretationsGiveNames : Type 0
-InterpretationsGiveNames = (s : Tables) (state : State) (ts : List PlainTerm) (J : ScriptInterpretation) → AllByRecursion (IsOpen s (entries state)) (reached_terms ts) → IsScriptInterpretation J state
+InterpretationsGiveNames =
+    (s : Tables) (state : State) (ts : List PlainTerm) (J : ScriptInterpretation) →
+    AllByRecursion (IsOpen s (entries state)) (reached_terms ts) → IsScriptInterpretation J state
     → AllByRecursion (IsNameGiven s (entries state) J) (reached_terms ts)

@@ -1,7 +1,8 @@
 -- States in which each term is defined once, from the names and the inline texts of its parts.
 use Rattle.std.specs.Prelude.{◌≡◌, ◌⊎◌, ℕ, List, [], ◌∷◌, Some}
 use Rattle.std.specs.List.{AllByRecursion}
-use Rattle.law_terms.specs.Plain.{PlainLiteral, PlainTerm, Application, LiteralTerm, RecordTerm, SetTerm, SomeTerm, PlainFields, no_fields, one_field, list_of_terms}
+use Rattle.law_terms.specs.Plain.{PlainLiteral, PlainTerm, Application, LiteralTerm, RecordTerm, SetTerm, SomeTerm, PlainFields, no_fields}
+use Rattle.law_terms.specs.Plain.{one_field, list_of_terms}
 use Rattle.law_terms.specs.Reached.{reached_terms}
 use Rattle.law_terms.specs.TypeValues.{Enums}
 use Rattle.law_texts.specs.Reading.{Expression}
@@ -32,7 +33,8 @@ parts_of t = []
 -- What stands for a term is its name, or the inline text of a literal: `true` or `false`, `(_ bvX n)` or a string (SMT-LIB 2.7,
 -- theories Core and UnicodeStrings, logic QF_BV).
 abbrev pub IsFlatText : Tables → PlainTerm → Expression → Type 0
-IsFlatText s t e = ((n : List ℕ) × (name_of_term s t ≡ Some n) × (e ≡ name n)) ⊎ ((p : PlainLiteral) × (t ≡ LiteralTerm p) × (inline_text p ≡ Some e))
+IsFlatText s t e =
+    ((n : List ℕ) × (name_of_term s t ≡ Some n) × (e ≡ name n)) ⊎ ((p : PlainLiteral) × (t ≡ LiteralTerm p) × (inline_text p ≡ Some e))
 
 -- ---- definitions
 
@@ -50,8 +52,10 @@ pub record IsDefinitionOf (enums : Enums) (us : List PlainTerm) (s : Tables) (st
 
 -- Each name that is defined is so as that of a reached term, and a term is defined under one name at most.
 pub record IsFlatState (enums : Enums) (ts : List PlainTerm) (s : Tables) (state : State) : Type 0 where
-  pub defines : (n : List ℕ) (sort body : Expression) → entries state n ≡ Some (Defined sort body) → (t : PlainTerm) × IsDefinitionOf enums (reached_terms ts) s state t n
-  pub once : (t : PlainTerm) (n m : List ℕ) → IsDefinitionOf enums (reached_terms ts) s state t n → IsDefinitionOf enums (reached_terms ts) s state t m → n ≡ m
+  pub defines : (n : List ℕ) (sort body : Expression) → entries state n ≡ Some (Defined sort body) →
+      (t : PlainTerm) × IsDefinitionOf enums (reached_terms ts) s state t n
+  pub once : (t : PlainTerm) (n m : List ℕ) → IsDefinitionOf enums (reached_terms ts) s state t n →
+      IsDefinitionOf enums (reached_terms ts) s state t m → n ≡ m
 
 -- So it is wherever a stage fits a state.
 abbrev pub FittingStatesAreFlat : Type 0

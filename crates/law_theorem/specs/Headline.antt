@@ -27,7 +27,8 @@ AreTexts s ts es = ⊥
 -- each expression has the value of the term at its place
 abbrev pub HaveTermValues : Interpretation → ScriptInterpretation → State → List PlainTerm → List Expression → Type 0
 HaveTermValues I J state [] [] = ⊤
-HaveTermValues I J state (t ∷ ts) (e ∷ es) = (expression_value J state e ≡ Some (TruthOf (truth (term_value I t)))) × HaveTermValues I J state ts es
+HaveTermValues I J state (t ∷ ts) (e ∷ es) =
+    (expression_value J state e ≡ Some (TruthOf (truth (term_value I t)))) × HaveTermValues I J state ts es
 HaveTermValues I J state ts es = ⊥
 
 -- the names that tables give to the variables and functions that terms reach
@@ -44,10 +45,12 @@ pub record Represents (enums : Enums) (s : Tables) (ts : List PlainTerm) (state 
   pub free : (n : List ℕ) → IsTrue (is_in n (free_names state)) ↔ IsTrue (is_in n (reached_names s ts))
   -- An interpretation of the terms, carried over, is one of the script, and each assertion has its term's value in it.
   pub carried : (I : Interpretation) → IsInterpretation enums ts I → IsScriptInterpretation (carry_interpretation enums s I) state
-  pub values : (I : Interpretation) → IsInterpretation enums ts I → HaveTermValues I (carry_interpretation enums s I) state ts (assertions_of state)
+  pub values : (I : Interpretation) → IsInterpretation enums ts I →
+      HaveTermValues I (carry_interpretation enums s I) state ts (assertions_of state)
   -- An interpretation of the script comes back as one of the terms, which is carried to it again.
   pub back : (J : ScriptInterpretation) → IsScriptInterpretation J state → IsInterpretation enums ts (back_interpretation enums s J)
-  pub again : (J : ScriptInterpretation) → IsScriptInterpretation J state → AgreeFor (carry_interpretation enums s (back_interpretation enums s J)) J state
+  pub again : (J : ScriptInterpretation) → IsScriptInterpretation J state →
+      AgreeFor (carry_interpretation enums s (back_interpretation enums s J)) J state
   -- So the models are exactly the interpretations that make all terms true.
   pub models : (J : ScriptInterpretation) → IsScriptInterpretation J state → IsModel J state ↔ AreTrue (back_interpretation enums s J) ts
   pub true_in : (I : Interpretation) → IsInterpretation enums ts I → AreTrue I ts ↔ IsModel (carry_interpretation enums s I) state

@@ -2,19 +2,22 @@
 -- names a value or a table of its sort.
 use Rattle.std.specs.Prelude.{◌≡◌, ◌⊎◌, ℕ, codes, List, [], ◌∷◌, Option, Some, None, IsTrue, ⊤}
 use Rattle.std.specs.List.{AllByRecursion}
-use Rattle.law_terms.specs.Plain.{PlainType, PlainFunction, ExtensionOp, ExtOp, OptionGetOp, UufOp, PlainTerm, PlainTerms, Application, VariableTerm}
+use Rattle.law_terms.specs.Plain.{PlainType, PlainFunction, ExtensionOp, ExtOp, OptionGetOp, UufOp, PlainTerm, PlainTerms, Application}
+use Rattle.law_terms.specs.Plain.{VariableTerm}
 use Rattle.law_terms.specs.Reached.{reached_terms}
 use Rattle.law_terms.specs.Types.{extension_signature}
 use Rattle.law_texts.specs.Reading.{Expression}
 use Rattle.law_scripts.specs.Script.{Entry, Constant, Function, Selects, State, name, names_of}
 use Rattle.law_scripts.specs.Sorts.{entries, option_sort}
 use Rattle.law_scripts.specs.Value as script
-use Rattle.law_scripts.specs.Value.{OpenSelector, ValueOfSort, TableOfSelector, open_selector, IsScriptInterpretation, AgreeFor, applied_selectors}
+use Rattle.law_scripts.specs.Value.{OpenSelector, ValueOfSort, TableOfSelector, open_selector, IsScriptInterpretation, AgreeFor}
+use Rattle.law_scripts.specs.Value.{applied_selectors}
 use Rattle.law_lines.specs.Naming.{type_sort}
 use Rattle.law_lines.specs.NameTables.{Tables}
 use Rattle.law_lines.specs.EntryNames.{selector_name}
 use Rattle.law_theorem.specs.CarriedOperators.{selector_constructor}
-use Rattle.law_theorem.specs.CarriedInterpretations.{ip_type, is_range_selector, variable_name, function_name, GivesReachedNames, AgreeOnNames}
+use Rattle.law_theorem.specs.CarriedInterpretations.{ip_type, is_range_selector, variable_name, function_name, GivesReachedNames}
+use Rattle.law_theorem.specs.CarriedInterpretations.{AgreeOnNames}
 
 -- x is one of these
 abbrev pub IsAmong : {A : Type 0} → A → List A → Type 0
@@ -68,7 +71,8 @@ IsOpenEntry s us n (Function argument sort) = IsFunction s us n argument sort
 IsOpenEntry s us n x = ⊤
 
 -- what is left open of a selector stands for what a term reaches: `val` of an option type, or a selector of IP ranges
-abbrev pub IsOpenHere : Tables → List PlainTerm → List ℕ → Expression → (datatype : List ℕ) → (parameters : List (List ℕ)) → (constructor : List ℕ) → (field : Expression) → Option OpenSelector → Type 0
+abbrev pub IsOpenHere : Tables → List PlainTerm → List ℕ → Expression → (datatype : List ℕ) → (parameters : List (List ℕ)) →
+    (constructor : List ℕ) → (field : Expression) → Option OpenSelector → Type 0
 IsOpenHere s us n sort d ps c field (Some ValueOfSort) = IsOption s us d ps sort field
 IsOpenHere s us n sort d ps c field (Some TableOfSelector) = IsRange s us n c sort field
 IsOpenHere s us n sort d ps c field None = ⊤
@@ -90,4 +94,6 @@ GivenNamesInterpret = (s : Tables) (ts : List PlainTerm) (state : State) (J : sc
 
 -- Interpretations that agree on the reached names agree for the script.
 abbrev pub NamesAgree : Type 0
-NamesAgree = (s : Tables) (ts : List PlainTerm) (state : State) (J K : script.ScriptInterpretation) → LeavesOpen s ts state → AgreeOnNames s ts J K → AgreeFor J K state
+NamesAgree =
+    (s : Tables) (ts : List PlainTerm) (state : State) (J K : script.ScriptInterpretation) → LeavesOpen s ts state → AgreeOnNames s ts J K →
+    AgreeFor J K state

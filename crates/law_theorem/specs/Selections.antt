@@ -20,18 +20,24 @@ use Rattle.law_theorem.specs.Fits.{Stage, FitsAt}
 -- What a script that fits a stage leaves to an interpretation is what the terms reach: variables, functions, and selectors at
 -- the sorts that they are applied to.
 abbrev pub SelectorsAreOpen : Type 0
-SelectorsAreOpen = (enums : Enums) (text : List ℕ) (x : Stage) (state : State) → FitsAt enums x state → Script text state → LeavesOpen x.tables x.terms state
+SelectorsAreOpen =
+    (enums : Enums) (text : List ℕ) (x : Stage) (state : State) → FitsAt enums x state → Script text state →
+    LeavesOpen x.tables x.terms state
 
 -- An interpretation of that script gives values and tables to all of this.
 abbrev pub InterpretationsGiveReached : Type 0
-InterpretationsGiveReached = (enums : Enums) (text : List ℕ) (x : Stage) (state : State) → AreEnums enums → FitsAt enums x state → Script text state → (J : ScriptInterpretation) → IsScriptInterpretation J state
+InterpretationsGiveReached =
+    (enums : Enums) (text : List ℕ) (x : Stage) (state : State) → AreEnums enums → FitsAt enums x state → Script text state →
+    (J : ScriptInterpretation) → IsScriptInterpretation J state
     → GivesReachedNames x.tables (entries state) x.terms J
 
 -- ---- examples
 
 -- the selectors that the text of terms leaves open, with the sorts that they are applied to
 abbrev pub selected_in : List PlainTerm → List (List ℕ × Expression)
-selected_in ts = map (λ p. (p.selector, p.sort)) (applied_selectors (unwrap_or (run (commands (option_line ∷ (encode [] ts no_names).lines)) start) start))
+selected_in ts =
+    map (λ p. (p.selector, p.sort))
+    (applied_selectors (unwrap_or (run (commands (option_line ∷ (encode [] ts no_names).lines)) start) start))
 
 -- what is inside an option of Booleans
 abbrev pub inside_option : PlainTerm
@@ -39,4 +45,6 @@ inside_option = unary OptionGetOp (VariableTerm (codes "o") (OptionType BoolType
 
 -- `val` at that option, and one selector of IP ranges; the attributes and the datetime of the second example leave nothing open.
 abbrev pub TheseAreSelected : Type 0
-TheseAreSelected = (selected_in (inside_option ∷ []) ≡ (codes "val", option_sort bool_sort) ∷ []) × (selected_in condition ≡ (codes "addrV4", name (codes "IPAddr")) ∷ [])
+TheseAreSelected =
+    (selected_in (inside_option ∷ []) ≡ (codes "val", option_sort bool_sort) ∷ [])
+    × (selected_in condition ≡ (codes "addrV4", name (codes "IPAddr")) ∷ [])

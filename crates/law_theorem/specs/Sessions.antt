@@ -22,7 +22,8 @@ ChangesNothing line = IsLine line [] ⊎ ((c : Command) × IsIdle c × IsLine li
 -- the bytes of the steps of a session, one after the other
 abbrev pub text_of_steps : Enums → List Step → Stages → List ℕ
 text_of_steps enums [] x = []
-text_of_steps enums (CallStep c ∷ steps) x = spelled_lines (lines_of_call enums c (encoding_of x)) ++ text_of_steps enums steps (stages_after enums c x)
+text_of_steps enums (CallStep c ∷ steps) x =
+    spelled_lines (lines_of_call enums c (encoding_of x)) ++ text_of_steps enums steps (stages_after enums c x)
 text_of_steps enums (LineStep line ∷ steps) x = line ++ text_of_steps enums steps x
 
 -- what the steps of a session make of stages: its calls alone change them
@@ -34,7 +35,8 @@ stages_after_steps enums (LineStep line ∷ steps) x = stages_after_steps enums 
 -- What is encoded are conditions, what is popped was pushed, and the lines beside change nothing.
 abbrev pub AreStepsOfConditions : Enums → List Step → Stages → Type 0
 AreStepsOfConditions enums [] x = Unit {0}
-AreStepsOfConditions enums (CallStep c ∷ steps) x = IsCallOfConditions enums c (encoding_of x) × AreStepsOfConditions enums steps (stages_after enums c x)
+AreStepsOfConditions enums (CallStep c ∷ steps) x =
+    IsCallOfConditions enums c (encoding_of x) × AreStepsOfConditions enums steps (stages_after enums c x)
 AreStepsOfConditions enums (LineStep line ∷ steps) x = ChangesNothing line × AreStepsOfConditions enums steps x
 
 -- The steps of a session keep that a text and stages fit.

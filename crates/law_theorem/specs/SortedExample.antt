@@ -2,7 +2,7 @@
 use Rattle.std.specs.Prelude.{◌≡◌, ℕ, codes, List, [], ◌∷◌, ◌++◌}
 use Rattle.law_terms.specs.Plain.{BoolType, NotOp, PlainTerm}
 use Rattle.law_scripts.specs.CommandLines.{SortedScript}
-use Rattle.law_scripts.specs.Samples.{IsIllSorted}
+use Rattle.law_scripts.specs.Rows.{IsIllSorted}
 use Rattle.law_scripts.specs.Script.{State}
 use Rattle.law_lines.specs.NameTables.{Tables}
 use Rattle.law_lines.specs.Rows.{not_b, unary}
@@ -26,7 +26,8 @@ pub record DoubleNegationIsWellWritten : Type 0 where
   pub condition : AreConditions [] (doubly_negated ∷ [])
   -- The text, byte for byte: each of the two negations is defined by the name of its part.
   pub bytes : text [] (doubly_negated ∷ [])
-      ≡ option_lines ++ codes "; \"b\"\n(declare-const t0 Bool)\n(define-fun t1 () Bool (not t0))\n(define-fun t2 () Bool (not t1))\n(assert t2)\n"
+      ≡ option_lines ++ codes "; \"b\"\n(declare-const t0 Bool)\n(define-fun t1 () Bool (not t0))\n"
+      ++ codes "(define-fun t2 () Bool (not t1))\n(assert t2)\n"
   -- It is well written with five commands: for `Option`, for three terms, and an assertion.
   pub well_written : IsWellWritten [] (text [] (doubly_negated ∷ [])) (doubly_negated ∷ []) (names [] (doubly_negated ∷ [])) 5
   -- With four it is not.
@@ -35,4 +36,5 @@ pub record DoubleNegationIsWellWritten : Type 0 where
   pub sorted : (state : State) × SortedScript (small_script (codes "Bool") (codes "(not t0)")) state
   pub ill_sorted : (state : State) × IsIllSorted (small_script (codes "String") (codes "(not t0)")) state
   -- With the inner negation written inline the script is well sorted, but it is flat under no names.
-  pub nested : (state : State) × SortedScript (small_script (codes "Bool") (codes "(not (not t0))")) state × ((s : Tables) → IsFlatState [] (doubly_negated ∷ []) s state → ⊥)
+  pub nested : (state : State) × SortedScript (small_script (codes "Bool") (codes "(not (not t0))")) state
+      × ((s : Tables) → IsFlatState [] (doubly_negated ∷ []) s state → ⊥)

@@ -25,8 +25,11 @@ pub record IsSortedState (s : State) : Type 0 where
 -- Where commands take nothing away and leave such a state, each of them is well sorted where it stands: a name that is declared
 -- keeps its sort.
 abbrev pub SortsGoBack : Type 0
-SortsGoBack = (cs : List Command) (s t : State) → AllByRecursion IsLasting cs → s.ended ≡ false → run cs s ≡ Some t → IsSortedState t → AreSorted cs s
+SortsGoBack =
+    (cs : List Command) (s t : State) → AllByRecursion IsLasting cs → s.ended ≡ false → run cs s ≡ Some t → IsSortedState t → AreSorted cs s
 
 -- Such a state is left wherever a stage fits a script.
 abbrev pub FittingStatesAreSorted : Type 0
-FittingStatesAreSorted = (enums : Enums) (text : List ℕ) (x : Stage) (state : State) → AreEnums enums → FitsAt enums x state → Script text state → IsSortedState state
+FittingStatesAreSorted =
+    (enums : Enums) (text : List ℕ) (x : Stage) (state : State) → AreEnums enums → FitsAt enums x state → Script text state →
+    IsSortedState state

@@ -40,5 +40,7 @@ pub record HasText (enums : Enums) (s : Tables) (state : State) (I : Interpretat
 
 -- So it is for all that is reached, wherever a stage fits a script.
 abbrev pub ReachedHaveTexts : Type 0
-ReachedHaveTexts = (enums : Enums) (text : List ℕ) (x : Stage) (state : State) (I : Interpretation) → AreEnums enums → FitsAt enums x state → Script text state → IsInterpretation enums x.terms I
+ReachedHaveTexts =
+    (enums : Enums) (text : List ℕ) (x : Stage) (state : State) (I : Interpretation) → AreEnums enums → FitsAt enums x state →
+    Script text state → IsInterpretation enums x.terms I
     → AllByRecursion (HasText enums x.tables state I) (reached_terms x.terms)

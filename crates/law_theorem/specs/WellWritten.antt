@@ -31,7 +31,8 @@ is_named_type t = false
 -- and one assertion for each term.
 abbrev pub most_for_terms : List PlainTerm → ℕ
 most_for_terms ts =
-    distinct_count type_eq (filter is_named_type (reached_types ts)) + (distinct_count function_eq (reached_functions ts) + (distinct_count term_eq (reached_terms ts) + length ts))
+    distinct_count type_eq (filter is_named_type (reached_types ts))
+    + (distinct_count function_eq (reached_functions ts) + (distinct_count term_eq (reached_terms ts) + length ts))
 
 -- for a call: a push and a pop are one command each
 abbrev pub most_for_call : Call → ℕ
@@ -49,19 +50,27 @@ pub record IsWellWritten (enums : Enums) (bytes : List ℕ) (ts : List PlainTerm
 
 -- Such is the text of a list of conditions. The one command more declares `Option`.
 abbrev pub TextsAreWellWritten : Type 0
-TextsAreWellWritten = (enums : Enums) (ts : List PlainTerm) → AreEnums enums → AreConditions enums ts → IsWellWritten enums (text enums ts) ts (names enums ts) (1 + most_for_terms ts)
+TextsAreWellWritten =
+    (enums : Enums) (ts : List PlainTerm) → AreEnums enums → AreConditions enums ts →
+    IsWellWritten enums (text enums ts) ts (names enums ts) (1 + most_for_terms ts)
 
 -- So is that of a list of calls, for the terms of the open levels.
 abbrev pub CallsAreWellWritten : Type 0
 CallsAreWellWritten = (enums : Enums) (cs : List Call) → AreEnums enums → AreCallsOfConditions enums cs fresh
-    → IsWellWritten enums (text_of_calls enums cs) (stages_after_calls enums cs new_stages).now.terms (stages_after_calls enums cs new_stages).now.tables (1 + sum_by most_for_call cs)
+    → IsWellWritten enums (text_of_calls enums cs) (stages_after_calls enums cs new_stages).now.terms
+    (stages_after_calls enums cs new_stages).now.tables (1 + sum_by most_for_call cs)
 
 -- A call's lines keep it, wherever a text and stages fit. Where nothing is written yet, they begin with one command more.
 abbrev pub CallsKeepWellWritten : Type 0
-CallsKeepWellWritten = (enums : Enums) (bytes : List ℕ) (x : Stages) (c : Call) (most : ℕ) → Fits enums bytes x → IsCallOfConditions enums c (encoding_of x) → IsWellWritten enums bytes x.now.terms x.now.tables most
-    → IsWellWritten enums (bytes ++ spelled_lines (lines_of_call enums c (encoding_of x))) (stages_after enums c x).now.terms (stages_after enums c x).now.tables (most + (length (beginning x.begun) + most_for_call c))
+CallsKeepWellWritten =
+    (enums : Enums) (bytes : List ℕ) (x : Stages) (c : Call) (most : ℕ) → Fits enums bytes x → IsCallOfConditions enums c (encoding_of x) →
+    IsWellWritten enums bytes x.now.terms x.now.tables most
+    → IsWellWritten enums (bytes ++ spelled_lines (lines_of_call enums c (encoding_of x))) (stages_after enums c x).now.terms
+    (stages_after enums c x).now.tables (most + (length (beginning x.begun) + most_for_call c))
 
 -- So does a line of a command that leaves each state as it is, and defines and asserts nothing, as `(check-sat)`.
 abbrev pub IdleLinesKeepWellWritten : Type 0
-IdleLinesKeepWellWritten = (enums : Enums) (bytes line : List ℕ) (ts : List PlainTerm) (s : Tables) (c : Command) (most : ℕ) → HasWholeLines bytes → IsWellWritten enums bytes ts s most
+IdleLinesKeepWellWritten =
+    (enums : Enums) (bytes line : List ℕ) (ts : List PlainTerm) (s : Tables) (c : Command) (most : ℕ) → HasWholeLines bytes →
+    IsWellWritten enums bytes ts s most
     → IsIdle c → ((u : State) → IsSortedCommand u c) → IsLine line (c ∷ []) → IsWellWritten enums (bytes ++ line) ts s (most + 1)

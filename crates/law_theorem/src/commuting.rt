@@ -1,4 +1,7 @@
-ghost use Rattle.law_theorem.specs.CarriedOperators.{AttributesAreSelected, ConstructorsCommute, ExtensionsAreSelected, InsertionsCommute, NegationsCommute, OperatorsCommute, OptionsAreSelected, TablesAreRead};
+ghost use Rattle.law_theorem.specs.CarriedOperators.{AttributesAreSelected, ConstructorsCommute};
+ghost use Rattle.law_theorem.specs.CarriedOperators.{ExtensionsAreSelected, InsertionsCommute};
+ghost use Rattle.law_theorem.specs.CarriedOperators.{NegationsCommute, OperatorsCommute};
+ghost use Rattle.law_theorem.specs.CarriedOperators.{OptionsAreSelected, TablesAreRead};
 
 /// An operator of scripts at carried values gives the carried value of what it gives in terms.
 pub fn operators_commute()

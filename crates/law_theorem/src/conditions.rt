@@ -1,4 +1,6 @@
-ghost use Rattle.law_theorem.specs.Conditions.{AttributesAreFound, FormedTypesAreEncodable, PlacesAreFound, TheseAreConditions, TypedListsAreEncodable, TypedTermsAreEncodable};
+ghost use Rattle.law_theorem.specs.Conditions.{AttributesAreFound, FormedTypesAreEncodable};
+ghost use Rattle.law_theorem.specs.Conditions.{PlacesAreFound, TheseAreConditions};
+ghost use Rattle.law_theorem.specs.Conditions.{TypedListsAreEncodable, TypedTermsAreEncodable};
 
 /// The place of a text, and of an attribute, is one in its list where the list has it.
 pub fn places_are_found()

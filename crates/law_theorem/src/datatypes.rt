@@ -1,4 +1,5 @@
-ghost use Rattle.law_theorem.specs.DeclaredDatatypes.{ColorsAreDeclared, DatatypesAreDeclared, NewDatatypesAreDeclared};
+ghost use Rattle.law_theorem.specs.DeclaredDatatypes.{ColorsAreDeclared, DatatypesAreDeclared};
+ghost use Rattle.law_theorem.specs.DeclaredDatatypes.{NewDatatypesAreDeclared};
 
 /// Where constructors are declared, and nothing else builds values of their datatype, it is declared as carrying asks.
 pub fn datatypes_are_declared()

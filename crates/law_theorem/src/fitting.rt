@@ -1,6 +1,13 @@
-ghost use Rattle.law_theorem.specs.Fits.{CallListsKeepFit, CallsKeepFit, CommentsKeepFit, DrawnNamesDiffer, EmptyTextFits, FittingTextsRepresent, IdleLinesKeepFit, KeysAreSound, TheseAreIdle};
+ghost use Rattle.law_theorem.specs.Fits.{CallListsKeepFit, CallsKeepFit, CommentsKeepFit};
+ghost use Rattle.law_theorem.specs.Fits.{DrawnNamesDiffer, EmptyTextFits};
+ghost use Rattle.law_theorem.specs.Fits.{FittingTextsRepresent, IdleLinesKeepFit, KeysAreSound};
+ghost use Rattle.law_theorem.specs.Fits.{TheseAreIdle};
 ghost use Rattle.law_theorem.specs.Sessions.{FittingTextsAreScripts, SessionsKeepFit};
-ghost use Rattle.law_theorem.specs.FittingStates.{OptionIsDeclared, AssertionsSelectNothing, FittingStagesDeclare, InterpretationsGiveNames, NamesAreOpen, ReachedIsDeclared, ReachedAreOpen, TermsAreNamed, NamedTypesAreDeclared};
+ghost use Rattle.law_theorem.specs.FittingStates.{OptionIsDeclared, AssertionsSelectNothing};
+ghost use Rattle.law_theorem.specs.FittingStates.{FittingStagesDeclare};
+ghost use Rattle.law_theorem.specs.FittingStates.{InterpretationsGiveNames, NamesAreOpen};
+ghost use Rattle.law_theorem.specs.FittingStates.{ReachedIsDeclared, ReachedAreOpen, TermsAreNamed};
+ghost use Rattle.law_theorem.specs.FittingStates.{NamedTypesAreDeclared};
 
 /// The law behind the main theorem: wherever a script, the terms that are encoded in it and their names fit, its state
 /// represents the terms.

@@ -1,4 +1,6 @@
-ghost use Rattle.law_theorem.specs.CarryRows.{MemberCarries, MemberComesBack, NegationCarries, NegationComesBack, RecordCarries, RecordComesBack, SortsComeBack};
+ghost use Rattle.law_theorem.specs.CarryRows.{MemberCarries, MemberComesBack, NegationCarries};
+ghost use Rattle.law_theorem.specs.CarryRows.{NegationComesBack, RecordCarries};
+ghost use Rattle.law_theorem.specs.CarryRows.{RecordComesBack, SortsComeBack};
 
 /// What values and interpretations are carried to, and back.
 pub fn carried_rows()

@@ -1,4 +1,5 @@
-ghost use Rattle.law_theorem.specs.Selections.{InterpretationsGiveReached, SelectorsAreOpen, TheseAreSelected};
+ghost use Rattle.law_theorem.specs.Selections.{InterpretationsGiveReached, SelectorsAreOpen};
+ghost use Rattle.law_theorem.specs.Selections.{TheseAreSelected};
 
 /// The text of conditions leaves nothing to an interpretation but what they reach.
 pub fn selectors_are_open()

@@ -1,4 +1,7 @@
-ghost use Rattle.law_theorem.specs.CarriedInterpretations.{BackIsInterpretation, CarriedInterpretationsHaveSorts, CarryingBackAgrees, InterpretationsComeBack};
+ghost use Rattle.law_theorem.specs.CarriedInterpretations.{BackIsInterpretation};
+ghost use Rattle.law_theorem.specs.CarriedInterpretations.{CarriedInterpretationsHaveSorts};
+ghost use Rattle.law_theorem.specs.CarriedInterpretations.{CarryingBackAgrees};
+ghost use Rattle.law_theorem.specs.CarriedInterpretations.{InterpretationsComeBack};
 ghost use Rattle.law_theorem.specs.Open.{GivenNamesInterpret, NamesAgree};
 
 /// A carried interpretation gives each name a value or a table of its sort.

@@ -1,5 +1,7 @@
-ghost use Rattle.law_theorem.specs.CarriedOrder.{CarryingIsOneToOne, CarryingKeepsOrder, SetsStaySorted};
-ghost use Rattle.law_theorem.specs.CarriedSorts.{BackUndoesCarrying, CarriedValuesHaveSorts, CarryingIsOnto};
+ghost use Rattle.law_theorem.specs.CarriedOrder.{CarryingIsOneToOne, CarryingKeepsOrder};
+ghost use Rattle.law_theorem.specs.CarriedOrder.{SetsStaySorted};
+ghost use Rattle.law_theorem.specs.CarriedSorts.{BackUndoesCarrying, CarriedValuesHaveSorts};
+ghost use Rattle.law_theorem.specs.CarriedSorts.{CarryingIsOnto};
 
 /// On the values of one type carrying keeps the order.
 pub fn carrying_keeps_order()

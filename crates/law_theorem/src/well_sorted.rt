@@ -2,7 +2,8 @@
 ghost use Rattle.law_theorem.specs.SortedExample.{DoubleNegationIsWellWritten};
 ghost use Rattle.law_theorem.specs.FlatScripts.{FittingStatesAreFlat};
 ghost use Rattle.law_theorem.specs.SortedScripts.{FittingStatesAreSorted, SortsGoBack};
-ghost use Rattle.law_theorem.specs.WellWritten.{CallsAreWellWritten, CallsKeepWellWritten, IdleLinesKeepWellWritten, TextsAreWellWritten};
+ghost use Rattle.law_theorem.specs.WellWritten.{CallsAreWellWritten, CallsKeepWellWritten};
+ghost use Rattle.law_theorem.specs.WellWritten.{IdleLinesKeepWellWritten, TextsAreWellWritten};
 
 /// Where a stage fits, all that is live is well sorted, and is defined once from the names and the inline texts of its parts.
 pub fn states_are_well_written()

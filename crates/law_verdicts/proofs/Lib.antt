@@ -13,7 +13,6 @@ pub mod Idle
 pub mod InHand
 mod Known
 mod ModelLines
-pub mod Rows
 mod Sampled
 mod Scan
 mod Search
@@ -23,5 +22,6 @@ pub mod StreamPieces
 pub mod StreamReplies
 pub mod StreamRequests
 pub mod Streams
-mod Truths
+pub mod TruthRows
+pub mod Truths
 mod Turns

@@ -7,7 +7,7 @@ use Rattle.law_scripts.proofs.First.{applied_text, assert_line, declare_const_li
 use Rattle.law_scripts.proofs.Laid.{groups_write, plain_lines}
 use Rattle.law_scripts.proofs.Lines.{comments_are_lines, names_write}
 use Rattle.law_lines.proofs.Spelled.{one_holds}
-use Rattle.law_verdicts.specs.Samples.{SmallSamples}
+use Rattle.law_verdicts.specs.Rows.{SmallSamples}
 
 -- whole lines that are these commands
 abbrev Reads : List ℕ → List Command → Type 0

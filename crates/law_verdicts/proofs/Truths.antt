@@ -23,12 +23,13 @@ use Rattle.law_verdicts.proofs.Small.{HasTruths, any, are_over, is_small_entry, 
 
 -- ---- what a connective gives of truths
 
--- these values
-abbrev truths : List Bool → List (Option ScriptValue)
-truths bs = map (λ b. Some (TruthOf b)) bs
+-- these truths as values
+abbrev pub truth_values : List Bool → List (Option ScriptValue)
+truth_values bs = map (λ b. Some (TruthOf b)) bs
 
-abbrev gives : Meaning → List ℕ → Option Expression → List Bool → Option ScriptValue
-gives env f sort bs = each_there (truths bs) >>= applied_value env f sort
+-- what a connective gives of these truths
+abbrev pub gives : Meaning → List ℕ → Option Expression → List Bool → Option ScriptValue
+gives env f sort bs = each_there (truth_values bs) >>= applied_value env f sort
 
 not_gives : (env : Meaning) (sort : Option Expression) (bs : List Bool) → length bs ≡ 1 → gives env (codes "not") sort bs ≡ Some (TruthOf (connected (codes "not") bs))
 not_gives env sort [] h = absurd cc
@@ -64,7 +65,7 @@ choice_gives env sort (true ∷ b ∷ c ∷ []) h = refl
 choice_gives env sort (false ∷ b ∷ c ∷ []) h = refl
 choice_gives env sort (a ∷ b ∷ c ∷ d ∷ bs) h = absurd cc
 
-word_gives : (env : Meaning) (sort : Option Expression) (f : List ℕ) (n : ℕ) → IsWord f n → (bs : List Bool) → length bs ≡ n → gives env f sort bs ≡ Some (TruthOf (connected f bs))
+pub word_gives : (env : Meaning) (sort : Option Expression) (f : List ℕ) (n : ℕ) → IsWord f n → (bs : List Bool) → length bs ≡ n → gives env f sort bs ≡ Some (TruthOf (connected f bs))
 word_gives env sort f n is_not bs h = not_gives env sort bs h
 word_gives env sort f n is_and bs h = and_gives env sort bs h
 word_gives env sort f n is_or bs h = or_gives env sort bs h
@@ -84,17 +85,18 @@ as_many : (at : List ℕ → Bool) (es : Expressions) → length (truths_in at e
 as_many at Nil = refl
 as_many at (Cons e es) = ap suc (as_many at es)
 
-applied : (here : Entries) (env : Meaning) (f : List ℕ) (n : ℕ) → IsWord f n → (es : Expressions) → count es ≡ n → evaluate here env (Node (Cons (Leaf (Name f)) es)) ≡ (each_there (evaluate_each here env es) >>= applied_value env f (first_sort here es))
-applied here env f n is_not Nil h = absurd cc
-applied here env f n is_and Nil h = absurd cc
-applied here env f n is_or Nil h = absurd cc
-applied here env f n is_equal Nil h = absurd cc
-applied here env f n is_choice Nil h = absurd cc
-applied here env f n is_not (Cons e es) h = refl
-applied here env f n is_and (Cons e es) h = refl
-applied here env f n is_or (Cons e es) h = refl
-applied here env f n is_equal (Cons e es) h = refl
-applied here env f n is_choice (Cons e es) h = refl
+-- an application of a connective is worth what the connective gives of its operands
+pub applied_word : (here : Entries) (env : Meaning) (f : List ℕ) (n : ℕ) → IsWord f n → (es : Expressions) → count es ≡ n → evaluate here env (Node (Cons (Leaf (Name f)) es)) ≡ (each_there (evaluate_each here env es) >>= applied_value env f (first_sort here es))
+applied_word here env f n is_not Nil h = absurd cc
+applied_word here env f n is_and Nil h = absurd cc
+applied_word here env f n is_or Nil h = absurd cc
+applied_word here env f n is_equal Nil h = absurd cc
+applied_word here env f n is_choice Nil h = absurd cc
+applied_word here env f n is_not (Cons e es) h = refl
+applied_word here env f n is_and (Cons e es) h = refl
+applied_word here env f n is_or (Cons e es) h = refl
+applied_word here env f n is_equal (Cons e es) h = refl
+applied_word here env f n is_choice (Cons e es) h = refl
 
 mutual
   formula_value : (here : Entries) (env : Meaning) (has : List ℕ → Bool) → HaveTruths env has → (e : Expression) → is_formula has e ≡ true → evaluate here env e ≡ Some (TruthOf (truth_in (truth_by env) e))
@@ -106,7 +108,7 @@ mutual
   formula_value here env has t (Node (Cons (Leaf (Name f)) es)) h =
       let p = and_parts (is_connective f (count es)) (are_formulas has es) h in
       let w = word_of f (count es) p.0 in
-      applied here env f (count es) w es refl
+      applied_word here env f (count es) w es refl
       ∙ ap (λ vs. each_there vs >>= applied_value env f (first_sort here es)) (formula_values here env has t es p.1)
       ∙ word_gives env (first_sort here es) f (count es) w (truths_in (truth_by env) es) (as_many (truth_by env) es)
   formula_value here env has t (Node (Cons (Leaf (Bits w n)) es)) h = absurd (false≢true h)
@@ -114,7 +116,7 @@ mutual
   formula_value here env has t (Node (Cons (Leaf (Text s)) es)) h = absurd (false≢true h)
   formula_value here env has t (Node (Cons (Node fs) es)) h = absurd (false≢true h)
 
-  formula_values : (here : Entries) (env : Meaning) (has : List ℕ → Bool) → HaveTruths env has → (es : Expressions) → are_formulas has es ≡ true → evaluate_each here env es ≡ truths (truths_in (truth_by env) es)
+  formula_values : (here : Entries) (env : Meaning) (has : List ℕ → Bool) → HaveTruths env has → (es : Expressions) → are_formulas has es ≡ true → evaluate_each here env es ≡ truth_values (truths_in (truth_by env) es)
   formula_values here env has t Nil h = refl
   formula_values here env has t (Cons e es) h =
       let p = and_parts (is_formula has e) (are_formulas has es) h in

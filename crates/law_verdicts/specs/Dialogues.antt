@@ -42,7 +42,8 @@ EndsItsLine c = IsLine c.answer
 abbrev pub AreAllowed : (allows : List ℕ → List ℕ → List ℕ → Type 0) → (sent was_read : List ℕ) → List AnsweredCheck → Type 0
 AreAllowed allows sent was_read [] = ⊤
 AreAllowed allows sent was_read (c ∷ cs) =
-    allows (sent ++ (c.lines ++ check_sat_text)) was_read c.answer × AreAllowed allows (sent ++ (c.lines ++ check_sat_text)) (was_read ++ c.answer) cs
+    allows (sent ++ (c.lines ++ check_sat_text)) was_read c.answer
+    × AreAllowed allows (sent ++ (c.lines ++ check_sat_text)) (was_read ++ c.answer) cs
 
 -- Each answer that has another behind it ends with its line feed.
 abbrev pub AreLinesButLast : List AnsweredCheck → Type 0
@@ -97,10 +98,13 @@ asked_behind enums steps = logic_text ++ (text_of_steps enums steps new_stages +
 
 -- The check behind the steps of a dialogue is in turn, where its answers were read.
 abbrev pub DialogueChecksAreInTurn : Type 0
-DialogueChecksAreInTurn = (enums : Enums) (steps : List Step) (answers : List (List ℕ)) → IsDialogue enums steps answers → IsInTurn (asked_behind enums steps) (concat answers)
+DialogueChecksAreInTurn =
+    (enums : Enums) (steps : List Step) (answers : List (List ℕ)) → IsDialogue enums steps answers →
+    IsInTurn (asked_behind enums steps) (concat answers)
 
 -- So where a line that tells the truth says `unsat` there, no interpretation makes all terms true that are encoded at the levels
 -- which are open then.
 abbrev pub DialoguesAreBelieved : Type 0
 DialoguesAreBelieved = (enums : Enums) (steps : List Step) (answers : List (List ℕ)) (line : List ℕ) → IsDialogue enums steps answers
-    → IsTrueOf (asked_behind enums steps) (concat answers) line → StripsTo line (codes "unsat") → AreNeverTrue enums (stages_after_steps enums steps new_stages).now.terms
+    → IsTrueOf (asked_behind enums steps) (concat answers) line → StripsTo line (codes "unsat") →
+    AreNeverTrue enums (stages_after_steps enums steps new_stages).now.terms

@@ -1,5 +1,6 @@
 -- The first model of a script of Boolean constants: in order of declaration, false before true.
-use Rattle.std.specs.Prelude.{◌≡◌, ℕ, zero, suc, Bool, true, false, IsTrue, if◌then◌else◌, bytes_eq, map, length, List, [], ◌∷◌, ◌++◌, Option, Some, None}
+use Rattle.std.specs.Prelude.{◌≡◌, ℕ, zero, suc, Bool, true, false, IsTrue, if◌then◌else◌, bytes_eq, map, length, List, [], ◌∷◌, ◌++◌}
+use Rattle.std.specs.Prelude.{Option, Some, None}
 use Rattle.std.specs.List.{list_all}
 use Rattle.std.specs.Option.{option_or}
 use Rattle.law_scripts.specs.ScriptValues.{ScriptValue, TruthOf}
@@ -62,7 +63,9 @@ is_model j s = list_all (λ e. is_true (expression_value j s e)) (assertions_of 
 -- place counting most.
 abbrev pub first_such : ℕ → (List Bool → Bool) → Option (List Bool)
 first_such zero holds = if holds [] then Some [] else None
-first_such (suc n) holds = option_or (first_such n (λ bs. holds (false ∷ bs)) >>= λ bs. Some (false ∷ bs)) (first_such n (λ bs. holds (true ∷ bs)) >>= λ bs. Some (true ∷ bs))
+first_such (suc n) holds =
+    option_or (first_such n (λ bs. holds (false ∷ bs)) >>= λ bs. Some (false ∷ bs))
+    (first_such n (λ bs. holds (true ∷ bs)) >>= λ bs. Some (true ∷ bs))
 
 -- the truths that the first model gives the constants
 abbrev pub first_model : State → Option (List Bool)
@@ -91,4 +94,6 @@ pub record IsFirst (s : State) (bs : List Bool) : Type 0 where
 
 -- A script of the fragment has no model exactly where the search finds none, and what it finds is the first model.
 abbrev pub ModelsAreFound : Type 0
-ModelsAreFound = (s : State) → IsSmall s → (first_model s ≡ None → HasNone s) × (HasNone s → first_model s ≡ None) × ((bs : List Bool) → first_model s ≡ Some bs → IsFirst s bs)
+ModelsAreFound =
+    (s : State) → IsSmall s →
+    (first_model s ≡ None → HasNone s) × (HasNone s → first_model s ≡ None) × ((bs : List Bool) → first_model s ≡ Some bs → IsFirst s bs)

@@ -1,9 +1,12 @@
 -- Scripts of Boolean constants: the commands that a small solver takes, and the expressions in them (SMT-LIB 2.7, theory Core).
-use Rattle.std.specs.Prelude.{◌≡◌, ℕ, Bool, true, false, not, ◌&&◌, ◌||◌, ◌==◌, IsTrue, if◌then◌else◌, codes, bytes_eq, List, [], ◌∷◌, ◌++◌, Option, Some, None}
+use Rattle.std.specs.Prelude.{◌≡◌, ℕ, Bool, true, false, not, ◌&&◌, ◌||◌, ◌==◌, IsTrue, if◌then◌else◌, codes, bytes_eq, List, [], ◌∷◌, ◌++◌}
+use Rattle.std.specs.Prelude.{Option, Some, None}
 use Rattle.std.specs.List.{list_any}
 use Rattle.law_texts.specs.Lexicon.{Number, Name}
 use Rattle.law_texts.specs.Reading.{Expression, Leaf, Node, Expressions, Nil, Cons, expressions}
-use Rattle.law_scripts.specs.Script.{Command, DeclareDatatype, DeclareConst, DefineFun, Assert, DeclareFun, SetLogic, SetOption, CheckSat, GetModel, Reset, Exit, Push, Pop, Entry, Constant, Defined, State, stated, operands, count, has_name, start, step}
+use Rattle.law_scripts.specs.Script.{Command, DeclareDatatype, DeclareConst, DefineFun, Assert, DeclareFun, SetLogic, SetOption, CheckSat}
+use Rattle.law_scripts.specs.Script.{GetModel, Reset, Exit, Push, Pop, Entry, Constant, Defined, State, stated, operands, count, has_name}
+use Rattle.law_scripts.specs.Script.{start, step}
 use Rattle.law_scripts.specs.Sorts.{bool_sort, entries, same_sort, same_sorts}
 use Rattle.law_scripts.specs.Written.{is_name, option_command}
 
@@ -40,7 +43,8 @@ is_truth x = false
 -- A name of sort Bool: `true`, `false`, what is declared or defined so, and a name that nothing has. A script with the last is
 -- none, but it lies in the fragment.
 abbrev pub is_truth_name : State → List ℕ → Bool
-is_truth_name s n = is_name n && ((bytes_eq n (codes "true") || bytes_eq n (codes "false")) || (not (has_name s n) || is_truth (entries s n)))
+is_truth_name s n =
+    is_name n && ((bytes_eq n (codes "true") || bytes_eq n (codes "false")) || (not (has_name s n) || is_truth (entries s n)))
 
 -- ---- commands
 
@@ -165,4 +169,6 @@ IsSmall s = (cs : List Command) × Lead cs start s
 
 -- An expression is a command of the fragment exactly where it states one that lies in it, and then it is that one.
 abbrev pub CommandsAreFound : Type 0
-CommandsAreFound = (s : State) (c : Command) (e : Expression) → (command_in s e ≡ Some c → (stated c ≡ e) × IsTrue (is_within s c)) × (stated c ≡ e → IsTrue (is_within s c) → command_in s e ≡ Some c)
+CommandsAreFound =
+    (s : State) (c : Command) (e : Expression) →
+    (command_in s e ≡ Some c → (stated c ≡ e) × IsTrue (is_within s c)) × (stated c ≡ e → IsTrue (is_within s c) → command_in s e ≡ Some c)

@@ -38,7 +38,9 @@ BlankScriptsAreEmpty = (bytes : List ℕ) (s : State) → IsBlankScript bytes �
 
 -- Behind a blank script a text comes to what it comes to alone, so that the next holder finds nothing of those before.
 abbrev pub HoldersStandAlone : Type 0
-HoldersStandAlone = (before text : List ℕ) (alone behind : State) → IsBlankScript before → Script text alone → Script (before ++ text) behind → behind ≡ alone
+HoldersStandAlone =
+    (before text : List ℕ) (alone behind : State) → IsBlankScript before → Script text alone → Script (before ++ text) behind →
+    behind ≡ alone
 
 -- No `(reset)` helps behind `(exit)`: the state stays. This is why a text has to be left open.
 abbrev pub ExitStays : Type 0

@@ -23,8 +23,10 @@ pub record AreModelLines (bytes : List ℕ) : Type 0 where
 -- (SMT-LIB 2.7, chapter 4, Responses).
 abbrev pub AreAnswersTo : List Command → List ℕ → Type 0
 AreAnswersTo [] bytes = bytes ≡ []
-AreAnswersTo (CheckSat ∷ commands) bytes = (line : List ℕ) × (rest : List ℕ) × (bytes ≡ line ++ rest) × IsLine line × AreAnswersTo commands rest
-AreAnswersTo (GetModel ∷ commands) bytes = (model : List ℕ) × (rest : List ℕ) × (bytes ≡ model ++ rest) × AreModelLines model × AreAnswersTo commands rest
+AreAnswersTo (CheckSat ∷ commands) bytes =
+    (line : List ℕ) × (rest : List ℕ) × (bytes ≡ line ++ rest) × IsLine line × AreAnswersTo commands rest
+AreAnswersTo (GetModel ∷ commands) bytes =
+    (model : List ℕ) × (rest : List ℕ) × (bytes ≡ model ++ rest) × AreModelLines model × AreAnswersTo commands rest
 AreAnswersTo (command ∷ commands) bytes = AreAnswersTo commands bytes
 
 -- A check is in turn: the text that was sent ends with its `(check-sat)`, the lines before it are whole, and what was read

@@ -29,7 +29,8 @@ pub record IsIdleLink (s : LinkState) : Type 0 where
 
 -- A link was asked whether a script has a model: it was sent the question alone, and answered by one line that decides so. Its answers
 -- had not ended inside a line before, and what is to come is told after it where it was told before.
-pub record AnswersQuestion (allows : List ℕ → List ℕ → List ℕ → Type 0) (old new : LinkState) (script : List ℕ) (d : Decision) : Type 0 where
+pub record AnswersQuestion (allows : List ℕ → List ℕ → List ℕ → Type 0) (old new : LinkState) (script : List ℕ) (d : Decision) :
+    Type 0 where
   pub answer : Answers allows old new (question_of script) (decision_word d)
   pub told : TellsToComeAlike old new
   pub went_on : IsOver old → ⊥
@@ -48,15 +49,18 @@ UnusedLinksAreIdle = (s : LinkState) → IsUnused s → IsIdleLink s
 
 -- The question about conditions is in turn on an idle link that tells all and whose answers have not ended inside a line.
 abbrev pub IdleChecksAreInTurn : Type 0
-IdleChecksAreInTurn = (enums : Enums) (ts : List PlainTerm) (s : LinkState) → AreConditions enums ts → IsIdleLink s → TellsAll s → (IsOver s → ⊥)
+IdleChecksAreInTurn =
+    (enums : Enums) (ts : List PlainTerm) (s : LinkState) → AreConditions enums ts → IsIdleLink s → TellsAll s → (IsOver s → ⊥)
     → (b : IsBlankLink s) × IsInTurn (b.sent ++ question_of (text enums ts)) b.answers
 
 -- So where such a link is honest and answers `unsat`, no interpretation makes all the conditions true.
 abbrev pub IdleLinksAreBelieved : (allows : List ℕ → List ℕ → List ℕ → Type 0) → Type 0
 IdleLinksAreBelieved allows = (enums : Enums) (ts : List PlainTerm) (before after : LinkState) → AreEnums enums → AreConditions enums ts
-    → IsHonest allows → IsIdleLink before → TellsAll before → AnswersQuestion allows before after (text enums ts) Unsat → AreNeverTrue enums ts
+    → IsHonest allows → IsIdleLink before → TellsAll before → AnswersQuestion allows before after (text enums ts) Unsat →
+    AreNeverTrue enums ts
 
 -- An idle link was asked about conditions and answered; then `(reset)` was sent. It is idle again.
 abbrev pub AskedLinksAreIdleAgain : (allows : List ℕ → List ℕ → List ℕ → Type 0) → Type 0
-AskedLinksAreIdleAgain allows = (enums : Enums) (ts : List PlainTerm) (d : Decision) (before after idle : LinkState) → AreEnums enums → AreConditions enums ts
+AskedLinksAreIdleAgain allows =
+    (enums : Enums) (ts : List PlainTerm) (d : Decision) (before after idle : LinkState) → AreEnums enums → AreConditions enums ts
     → IsIdleLink before → AnswersQuestion allows before after (text enums ts) d → IsReset after idle → IsIdleLink idle

@@ -63,16 +63,22 @@ PreamblesKeepBlank = (old new : LinkState) (lines : List ℕ) → IsBlankLink ol
 -- A blank link took the text of conditions and nothing else, and is asked next. That question is in turn. So where the link is
 -- honest and the answer is `unsat`, no interpretation makes all the conditions true.
 abbrev pub SessionsAreBelieved : (allows : List ℕ → List ℕ → List ℕ → Type 0) → Type 0
-SessionsAreBelieved allows = (enums : Enums) (ts : List PlainTerm) (before asked after : LinkState) → AreEnums enums → AreConditions enums ts
-    → IsHonest allows → IsBlankLink before → Takes before asked (text enums ts) → AsksDecision allows asked after (Ok Unsat) → AreNeverTrue enums ts
+SessionsAreBelieved allows =
+    (enums : Enums) (ts : List PlainTerm) (before asked after : LinkState) → AreEnums enums → AreConditions enums ts
+    → IsHonest allows → IsBlankLink before → Takes before asked (text enums ts) → AsksDecision allows asked after (Ok Unsat) →
+    AreNeverTrue enums ts
 
 -- The same of the question that asks for a model too.
 abbrev pub SessionsWithModelsAreBelieved : (allows : List ℕ → List ℕ → List ℕ → Type 0) → Type 0
-SessionsWithModelsAreBelieved allows = (enums : Enums) (ts : List PlainTerm) (before asked after : LinkState) → AreEnums enums → AreConditions enums ts
-    → IsHonest allows → IsBlankLink before → Takes before asked (text enums ts) → AsksWithModel allows asked after (Ok UnsatWith) → AreNeverTrue enums ts
+SessionsWithModelsAreBelieved allows =
+    (enums : Enums) (ts : List PlainTerm) (before asked after : LinkState) → AreEnums enums → AreConditions enums ts
+    → IsHonest allows → IsBlankLink before → Takes before asked (text enums ts) → AsksWithModel allows asked after (Ok UnsatWith) →
+    AreNeverTrue enums ts
 
 -- A blank link took the text of conditions, was asked, and gave an answer; then `(reset)` was sent. It is blank again, so that who
 -- holds it next may believe it as well, unless its answer ended inside a line: then it is over, and answers nothing more.
 abbrev pub AskedLinksAreBlankAgain : (allows : List ℕ → List ℕ → List ℕ → Type 0) → Type 0
-AskedLinksAreBlankAgain allows = (enums : Enums) (ts : List PlainTerm) (d : Decision) (before asked after idle : LinkState) → AreEnums enums → AreConditions enums ts
-    → IsBlankLink before → Takes before asked (text enums ts) → AsksDecision allows asked after (Ok d) → IsTrue (is_some after.to_come) → Exchanges after idle reset_text [] → IsBlankLink idle ⊎ IsOver after
+AskedLinksAreBlankAgain allows =
+    (enums : Enums) (ts : List PlainTerm) (d : Decision) (before asked after idle : LinkState) → AreEnums enums → AreConditions enums ts
+    → IsBlankLink before → Takes before asked (text enums ts) → AsksDecision allows asked after (Ok d) → IsTrue (is_some after.to_come) →
+    Exchanges after idle reset_text [] → IsBlankLink idle ⊎ IsOver after

@@ -11,8 +11,8 @@ pub mod InHand
 pub mod Joined
 pub mod Machine
 pub mod Rows
-pub mod Samples
 pub mod Scan
 pub mod Streams
+pub mod TruthRows
 pub mod Truths
 pub mod Verdicts

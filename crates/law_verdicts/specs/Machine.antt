@@ -1,5 +1,6 @@
 -- A small solver as a machine: its state, what it replies to an expression, and what it puts for a text.
-use Rattle.std.specs.Prelude.{◌≡◌, ◌⊎◌, ℕ, nat_le, Bool, true, false, IsTrue, if◌then◌else◌, codes, length, map, List, [], ◌∷◌, ◌++◌, Option, Some, None}
+use Rattle.std.specs.Prelude.{◌≡◌, ◌⊎◌, ℕ, nat_le, Bool, true, false, IsTrue, if◌then◌else◌, codes, length, map, List, [], ◌∷◌, ◌++◌}
+use Rattle.std.specs.Prelude.{Option, Some, None}
 use Rattle.law_texts.specs.Reading.{Expression}
 use Rattle.law_scripts.specs.Script.{Command, CheckSat, GetModel, Exit, State, start, stated, obey, run, step}
 use Rattle.law_verdicts.specs.Fragment.{Lead, command_in, command_of, is_within}
@@ -116,7 +117,9 @@ taken None shown s = Some (Nothing, blind s)
 -- What the machine replies to an expression, and the machine behind it. There is no turn where the commands with this one are
 -- no script, or behind `exit`.
 abbrev pub turn : Machine → Expression → Option (Reply × Machine)
-turn m e = if m.state.ended then None else (if m.outside then Some (replied_blindly (command_of e) m.state) else taken (command_in m.state e) m.shown m.state)
+turn m e =
+    if m.state.ended then None
+    else (if m.outside then Some (replied_blindly (command_of e) m.state) else taken (command_in m.state e) m.shown m.state)
 
 -- The machine takes its turns at these expressions, with these replies.
 abbrev pub AreTurns : Machine → List Expression → List Reply → Machine → Type 0
@@ -166,15 +169,20 @@ pub record IsTrueWord (s : State) (word : List ℕ) : Type 0 where
 pub record ChecksAreAnswered : Type 0 where
   pub decided : (es : List Expression) (rs : List Reply) (m : Machine) → AreTurns new es rs m → m.outside ≡ false → m.state.ended ≡ false
       → (word : List ℕ) × (next : Machine) × (turn m (stated CheckSat) ≡ Some (Line word, next)) × IsTrueWord m.state word
-  pub outside : (m : Machine) (e : Expression) → m.outside ≡ false → m.state.ended ≡ false → command_in m.state e ≡ None → turn m e ≡ Some (Nothing, blind m.state)
-  pub undecided : (m : Machine) (es : List Expression) (rs : List Reply) (last : Machine) → m.outside ≡ true → AreTurns m es rs last → last.state.ended ≡ false
+  pub outside : (m : Machine) (e : Expression) → m.outside ≡ false → m.state.ended ≡ false → command_in m.state e ≡ None →
+      turn m e ≡ Some (Nothing, blind m.state)
+  pub undecided : (m : Machine) (es : List Expression) (rs : List Reply) (last : Machine) → m.outside ≡ true → AreTurns m es rs last →
+      last.state.ended ≡ false
       → (next : Machine) × (turn last (stated CheckSat) ≡ Some (Line (codes "unknown"), next))
 
 -- Directly behind `sat` the first model is shown, and none behind anything else.
 pub record ModelsAreShown : Type 0 where
-  pub shown : (es : List Expression) (rs : List Reply) (m next : Machine) → AreTurns new es rs m → turn m (stated CheckSat) ≡ Some (Line (codes "sat"), next)
-      → (bs : List Bool) × IsFirst m.state bs × (turn next (stated GetModel) ≡ Some (Model (model_text (constants_of m.state) bs), quiet m.state))
-  pub hidden : (m : Machine) → m.state.ended ≡ false → m.shown ≡ false → (next : Machine) × (turn m (stated GetModel) ≡ Some (no_model, next))
+  pub shown : (es : List Expression) (rs : List Reply) (m next : Machine) → AreTurns new es rs m →
+      turn m (stated CheckSat) ≡ Some (Line (codes "sat"), next)
+      → (bs : List Bool) × IsFirst m.state bs
+      × (turn next (stated GetModel) ≡ Some (Model (model_text (constants_of m.state) bs), quiet m.state))
+  pub hidden : (m : Machine) → m.state.ended ≡ false → m.shown ≡ false →
+      (next : Machine) × (turn m (stated GetModel) ≡ Some (no_model, next))
 
 -- The commands of the fragment that an expression adds to those so far are no script.
 pub record AddsNoScript (m : Machine) (e : Expression) : Type 0 where
@@ -186,4 +194,6 @@ pub record AddsNoScript (m : Machine) (e : Expression) : Type 0 where
 
 -- An expression is refused exactly behind `exit`, and where all commands lie in the fragment and are no script.
 abbrev pub RefusalsAreMeant : Type 0
-RefusalsAreMeant = (m : Machine) (e : Expression) → (turn m e ≡ None → (m.state.ended ≡ true) ⊎ AddsNoScript m e) × ((m.state.ended ≡ true) ⊎ AddsNoScript m e → turn m e ≡ None)
+RefusalsAreMeant =
+    (m : Machine) (e : Expression) →
+    (turn m e ≡ None → (m.state.ended ≡ true) ⊎ AddsNoScript m e) × ((m.state.ended ≡ true) ⊎ AddsNoScript m e → turn m e ≡ None)

@@ -55,8 +55,11 @@ first_command s (b ∷ bs) = if ends_command s b then Some (b ∷ [], bs) else i
 
 -- Where the bytes begin with a command, the scan finds its end.
 abbrev pub ChunksAreScanned : Type 0
-ChunksAreScanned = (chunk rest : List ℕ) (c : Command) → IsChunk chunk c → first_command (at_depth 0 Between) (chunk ++ rest) ≡ Some (chunk, rest)
+ChunksAreScanned =
+    (chunk rest : List ℕ) (c : Command) → IsChunk chunk c → first_command (at_depth 0 Between) (chunk ++ rest) ≡ Some (chunk, rest)
 
 -- And what the scan cuts off, if it is read as one command, ends with its last bracket.
 abbrev pub ScannedAreChunks : Type 0
-ScannedAreChunks = (bytes chunk rest : List ℕ) (c : Command) → first_command (at_depth 0 Between) bytes ≡ Some (chunk, rest) → Holds chunk (c ∷ []) → (bytes ≡ chunk ++ rest) × IsChunk chunk c
+ScannedAreChunks =
+    (bytes chunk rest : List ℕ) (c : Command) → first_command (at_depth 0 Between) bytes ≡ Some (chunk, rest) → Holds chunk (c ∷ []) →
+    (bytes ≡ chunk ++ rest) × IsChunk chunk c

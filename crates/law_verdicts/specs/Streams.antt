@@ -1,5 +1,6 @@
 -- A small solver over a stream of bytes: what it puts for each byte that comes (SMT-LIB 2.7, chapter 3, "Lexicon", and chapter 4).
-use Rattle.std.specs.Prelude.{◌≡◌, ◌⊎◌, ℕ, suc, length, nat_le, nat_lt, Bool, true, false, not, ◌&&◌, ◌||◌, ◌==◌, if◌then◌else◌, codes, List, [], ◌∷◌, ◌++◌, map, Option, Some, None}
+use Rattle.std.specs.Prelude.{◌≡◌, ◌⊎◌, ℕ, suc, length, nat_le, nat_lt, Bool, true, false, not, ◌&&◌, ◌||◌, ◌==◌, if◌then◌else◌, codes}
+use Rattle.std.specs.Prelude.{List, [], ◌∷◌, ◌++◌, map, Option, Some, None}
 use Rattle.law_texts.specs.Lexicon.{is_printable, is_space}
 use Rattle.law_texts.specs.Reading.{Expression, Reads}
 use Rattle.law_texts.specs.Tokens.{IsReadWithin}
@@ -138,7 +139,8 @@ behind_turn s n (Some (r, m)) = Waiting (record { machine = m; scan = s; held = 
 abbrev pub IsAnswered : Course → List ℕ → Standing → Type 0
 IsAnswered c out last =
     (((e : Expression) → IsReadWithin c.held most_open e → ⊥) × (out ≡ stop_line NotScript) × (last ≡ Stopped))
-    ⊎ ((e : Expression) × IsReadWithin c.held most_open e × (out ≡ put_at (turn (asked c.odd c.machine) e) (λ m. [])) × (last ≡ behind_turn c.scan c.total (turn (asked c.odd c.machine) e)))
+    ⊎ ((e : Expression) × IsReadWithin c.held most_open e × (out ≡ put_at (turn (asked c.odd c.machine) e) (λ m. []))
+    × (last ≡ behind_turn c.scan c.total (turn (asked c.odd c.machine) e)))
 
 -- what is put at a byte, by whether the stream stops there, or a command ends
 abbrev pub IsPutAt : Option Stop → (ends : Bool) → Course → List ℕ → Standing → Type 0
@@ -157,7 +159,8 @@ Takes Stopped b out last = (out ≡ []) × (last ≡ Stopped)
 -- These bytes are put for bytes that come one after the other.
 abbrev pub TakesAll : Standing → List ℕ → List ℕ → Standing → Type 0
 TakesAll first [] out last = (out ≡ []) × (last ≡ first)
-TakesAll first (b ∷ bs) out last = (now later : List ℕ) × (next : Standing) × Takes first b now next × TakesAll next bs later last × (out ≡ now ++ later)
+TakesAll first (b ∷ bs) out last =
+    (now later : List ℕ) × (next : Standing) × Takes first b now next × TakesAll next bs later last × (out ≡ now ++ later)
 
 -- what is put where the bytes end here: an error inside a command
 abbrev pub put_at_end : Standing → List ℕ
@@ -221,7 +224,9 @@ pub record StreamsReply : Type 0 where
   -- what is put are whole lines
   pub lines : (sent out : List ℕ) (last : Standing) → TakesAll (Waiting first_course) sent out last → HasWholeLines out
   -- where no error was put, it is what the machine replies to all commands, up to `exit`
-  pub exactly : (sent out : List ℕ) (last : Standing) (commands : List Command) → TakesAll (Waiting first_course) sent out last → (last ≡ Stopped → ⊥)
+  pub exactly : (sent out : List ℕ) (last : Standing) (commands : List Command) → TakesAll (Waiting first_course) sent out last →
+      (last ≡ Stopped → ⊥)
       → Holds sent commands → out ≡ put_for new (map stated commands)
   -- where a stream ends with status 0, whatever its bytes are, it was put what the machine replies to the requests that they are
-  pub accepted : (sent out : List ℕ) (last : Standing) → TakesAll (Waiting first_course) sent out last → status_at last ≡ 0 → IsAccepted new sent out last
+  pub accepted : (sent out : List ℕ) (last : Standing) → TakesAll (Waiting first_course) sent out last → status_at last ≡ 0 →
+      IsAccepted new sent out last

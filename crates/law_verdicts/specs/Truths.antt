@@ -37,5 +37,7 @@ name_truth j s n = is_true (expression_value j s (name n))
 
 -- In a script of the fragment each formula whose names are there has a truth, the one that the connectives give those of its names.
 abbrev pub FormulasHaveTruths : Type 0
-FormulasHaveTruths = (s : State) (j : ScriptInterpretation) (e : Expression) → IsSmall s → IsScriptInterpretation j s → IsTrue (is_formula (is_truth_name s) e) → IsTrue (knows s e)
+FormulasHaveTruths =
+    (s : State) (j : ScriptInterpretation) (e : Expression) → IsSmall s → IsScriptInterpretation j s →
+    IsTrue (is_formula (is_truth_name s) e) → IsTrue (knows s e)
     → expression_value j s e ≡ Some (TruthOf (truth_in (name_truth j s) e))

@@ -24,7 +24,8 @@ question_of script = logic_text ++ (script ++ check_sat_text)
 
 -- The text of conditions holds no question. So the one that is asked behind it is in turn, where nothing was read before.
 abbrev pub ChecksAreInTurn : Type 0
-ChecksAreInTurn = (enums : Enums) (ts : List PlainTerm) → AreEnums enums → AreConditions enums ts → IsInTurn (question_of (text enums ts)) []
+ChecksAreInTurn =
+    (enums : Enums) (ts : List PlainTerm) → AreEnums enums → AreConditions enums ts → IsInTurn (question_of (text enums ts)) []
 
 -- A script that declares and asserts nothing.
 pub record IsBlankScript (bytes : List ℕ) : Type 0 where
@@ -38,8 +39,11 @@ LogicIsBlank = IsBlankScript logic_text
 -- Behind a script that declares and asserts nothing the script of terms was sent, and then `(check-sat)`. That is in turn, and
 -- a line that tells the truth says `unsat`. Then no interpretation makes all the terms true.
 abbrev pub UnsatIsBelieved : Type 0
-UnsatIsBelieved = (enums : Enums) (s : Tables) (ts : List PlainTerm) (before script was_read line : List ℕ) → IsBlankScript before → Headline enums s ts script
-    → IsInTurn (before ++ (script ++ check_sat_text)) was_read → IsTrueOf (before ++ (script ++ check_sat_text)) was_read line → StripsTo line (codes "unsat")
+UnsatIsBelieved =
+    (enums : Enums) (s : Tables) (ts : List PlainTerm) (before script was_read line : List ℕ) → IsBlankScript before →
+    Headline enums s ts script
+    → IsInTurn (before ++ (script ++ check_sat_text)) was_read → IsTrueOf (before ++ (script ++ check_sat_text)) was_read line →
+    StripsTo line (codes "unsat")
     → (I : Interpretation) → IsInterpretation enums ts I → AreTrue I ts → ⊥
 
 -- A link that gives no line is honest.

@@ -1,19 +1,27 @@
 //! Laws of verdicts and of scripts of Boolean constants, proved with no code.
 ghost use Rattle.law_verdicts.specs.Broken.{BrokenAnswersAreLast};
 ghost use Rattle.law_verdicts.specs.Dialogues.{DialogueChecksAreInTurn, DialoguesAreBelieved};
-ghost use Rattle.law_verdicts.specs.HandedOut.{BlankScriptsAreEmpty, ExitStays, HandOutsAreBlank, HoldersStandAlone, ResetLeavesNothing};
-ghost use Rattle.law_verdicts.specs.Idle.{AskedLinksAreIdleAgain, IdleChecksAreInTurn, IdleLinksAreBelieved, UnusedLinksAreIdle};
-ghost use Rattle.law_verdicts.specs.InHand.{AskedLinksAreBlankAgain, HonestyIsHandedOn, PreamblesKeepBlank, SessionsAreBelieved, SessionsWithModelsAreBelieved, TheseArePreambles, UnusedLinksAreBlank};
+ghost use Rattle.law_verdicts.specs.HandedOut.{BlankScriptsAreEmpty, ExitStays, HandOutsAreBlank};
+ghost use Rattle.law_verdicts.specs.HandedOut.{HoldersStandAlone, ResetLeavesNothing};
+ghost use Rattle.law_verdicts.specs.Idle.{AskedLinksAreIdleAgain, IdleChecksAreInTurn};
+ghost use Rattle.law_verdicts.specs.Idle.{IdleLinksAreBelieved, UnusedLinksAreIdle};
+ghost use Rattle.law_verdicts.specs.InHand.{AskedLinksAreBlankAgain, HonestyIsHandedOn};
+ghost use Rattle.law_verdicts.specs.InHand.{PreamblesKeepBlank, SessionsAreBelieved};
+ghost use Rattle.law_verdicts.specs.InHand.{SessionsWithModelsAreBelieved, TheseArePreambles};
+ghost use Rattle.law_verdicts.specs.InHand.{UnusedLinksAreBlank};
 ghost use Rattle.law_verdicts.specs.Joined.{ScriptsJoin, TextsJoin};
 ghost use Rattle.law_verdicts.specs.Streams.{StreamsReply};
-ghost use Rattle.law_verdicts.specs.Verdicts.{AnyLineIsNotHonest, ChecksAreInTurn, LogicIsBlank, SilenceIsHonest, UnsatIsBelieved};
+ghost use Rattle.law_verdicts.specs.Verdicts.{AnyLineIsNotHonest, ChecksAreInTurn, LogicIsBlank};
+ghost use Rattle.law_verdicts.specs.Verdicts.{SilenceIsHonest, UnsatIsBelieved};
 ghost use Rattle.law_verdicts.specs.Chunks.{ChunksAreCommands};
 ghost use Rattle.law_verdicts.specs.FirstModel.{ModelsAreFound};
 ghost use Rattle.law_verdicts.specs.Fragment.{CommandsAreFound};
 ghost use Rattle.law_verdicts.specs.Honest.{MachinesAreHonest, MachinesMayPut};
-ghost use Rattle.law_verdicts.specs.Machine.{ChecksAreAnswered, ModelsAreShown, RefusalsAreMeant, TurnsAreScripts};
-ghost use Rattle.law_verdicts.specs.Rows.{BranchesMayBeDropped, FormulasMayBe, LeastRowIsFirst, RowsStandAlone};
-ghost use Rattle.law_verdicts.specs.Samples.{SmallSamples};
+ghost use Rattle.law_verdicts.specs.Machine.{ChecksAreAnswered, ModelsAreShown, RefusalsAreMeant};
+ghost use Rattle.law_verdicts.specs.Machine.{TurnsAreScripts};
+ghost use Rattle.law_verdicts.specs.TruthRows.{BranchesMayBeDropped, FormulasMayBe};
+ghost use Rattle.law_verdicts.specs.TruthRows.{LeastRowIsFirst, RowsStandAlone};
+ghost use Rattle.law_verdicts.specs.Rows.{SmallSamples};
 ghost use Rattle.law_verdicts.specs.Scan.{ChunksAreScanned, ScannedAreChunks};
 ghost use Rattle.law_verdicts.specs.Truths.{FormulasHaveTruths};
 

@@ -1,7 +1,8 @@
 //! Bitvectors: how they are made from numbers and read as numbers, their signed range, complement
 //! and negation.
 ghost use Rattle.std.specs.Prelude.{◌≡◌, ◌-◌, ◌%◌, ◌^◌, ◌<◌, IfOk, IfErr};
-ghost use Rattle.law_numbers.specs.BitVectors.{is_negative, signed, bits_of, bvnot, bvneg, overflows, least_signed, greatest_signed};
+ghost use Rattle.law_numbers.specs.BitVectors.{is_negative, signed, bits_of, bvnot, bvneg};
+ghost use Rattle.law_numbers.specs.BitVectors.{overflows, least_signed, greatest_signed};
 
 mod arithmetic;
 mod comparison;

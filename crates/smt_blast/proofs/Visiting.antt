@@ -16,7 +16,7 @@ use Rattle.law_terms.specs.Interpretations.{variable_eq}
 use Rattle.law_terms.specs.Meanings.{all_found, found, meanings}
 use Rattle.law_terms.specs.Nodes.{Meaning, TermMeaning}
 use Rattle.law_terms.specs.Plain.{PlainFunction, PlainLiteral, PlainOp, UufOp, PlainTerm, Application, NoneTerm, LiteralTerm, RecordTerm, SetTerm, SomeTerm, VariableTerm, PlainTerms, no_terms, one_term, PlainType, list_of_terms}
-use Rattle.law_terms.specs.Reached.{variable_of}
+use Rattle.law_terms.specs.Reached.{reached_variable}
 use Rattle.law_terms.specs.Types.{literal_type, type_of}
 use Rattle.law_terms.specs.Typing.{typed, typed_all}
 use Rattle.law_terms.proofs.Shapes.{all-become}
@@ -229,7 +229,7 @@ number_first j (x ∷ xs) ys v h = by (variable_eq v x) h (number_first (suc j) 
     by true k again = refl
     by false k again = again k
 
-own_among : (vs : Variables) (t : PlainTerm) (v : List ℕ × PlainType) → AreNumbered vs t → variable_of t ≡ Some v → is_among vs v ≡ true
+own_among : (vs : Variables) (t : PlainTerm) (v : List ℕ × PlainType) → AreNumbered vs t → reached_variable t ≡ Some v → is_among vs v ≡ true
 own_among vs (VariableTerm id ty) v n e = let same : (id, ty) ≡ v = (cc) in subst (λ w. is_among vs w ≡ true) same n.0
 own_among vs (Application o ts ty) v n e = absurd (cc)
 own_among vs (LiteralTerm l) v n e = absurd (cc)
@@ -296,7 +296,7 @@ none_there (Some x) h = absurd (false≢true (sym h))
 
 -- a node is marked that is no variable
 pub visited : (old : Interner) (w x y : Walk) (vs ws : Variables) (t : PlainTerm) (id : NodeId) (n : ℕ) → walked vs t ≡ Ok ws → IsWalk old x ws → KeepsMarks w.marks.items x.marks.items → meaning_in old id ≡ Some (TermMeaning t) → typed t ≡ true
-    → ((v : List ℕ × PlainType) → variable_of t ≡ Some v → ⊥) → ((o : PlainOp) (ts : PlainTerms) (ty : PlainType) → t ≡ Application o ts ty → AllByRecursion (HasMark old x.marks.items) (list_of_terms ts))
+    → ((v : List ℕ × PlainType) → reached_variable t ≡ Some v → ⊥) → ((o : PlainOp) (ts : PlainTerms) (ty : PlainType) → t ≡ Application o ts ty → AllByRecursion (HasMark old x.marks.items) (list_of_terms ts))
     → y.marks.items ≡ with_mark x.marks.items id n → y.variables.items ≡ x.variables.items → Walks old w y (walked vs t) (id ∷ []) (done)
 visited old w x y vs ws t id n e h kept means ty none_of parts ms is =
     let ns = with_mark x.marks.items id n in

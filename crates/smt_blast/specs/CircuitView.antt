@@ -1,9 +1,11 @@
 -- The operators that have a circuit.
-use Rattle.law_numbers.specs.BitOperators.{BvaddOp, BvlshrOp, BvshlOp, BvsubOp, BvsleOp, BvsltOp, BvuleOp, BvultOp, BvsaddoOp, BvssuboOp, TestOperator}
+use Rattle.law_numbers.specs.BitOperators.{BvaddOp, BvlshrOp, BvshlOp, BvsubOp, BvsleOp, BvsltOp, BvuleOp, BvultOp, BvsaddoOp, BvssuboOp}
+use Rattle.law_numbers.specs.BitOperators.{TestOperator}
 use Rattle.law_terms.specs.Plain.{PlainOp, AndOp, BitsOp, BvnegOp, BvnegoOp, EqOp, IteOp, NotOp, OrOp, OverflowOp, TestOp, ZeroExtendOp}
 use Rattle.smt_blast.specs.declared.circuit.Chain.TheVariants.{Carry, Borrow}
 use Rattle.smt_blast.specs.declared.circuit.Circuit.{Circuit}
-use Rattle.smt_blast.specs.declared.circuit.Circuit.TheVariants.{Logic, Equal, Choice, Sum, Overflow, Negation, NegationOverflow, Shift, Test, ZeroExtension}
+use Rattle.smt_blast.specs.declared.circuit.Circuit.TheVariants.{Logic, Equal, Choice, Sum, Overflow, Negation, NegationOverflow, Shift}
+use Rattle.smt_blast.specs.declared.circuit.Circuit.TheVariants.{Test, ZeroExtension}
 use Rattle.smt_blast.specs.declared.circuit.Comparison.{Comparison}
 use Rattle.smt_blast.specs.declared.circuit.Comparison.TheVariants.{SignedAtMost, SignedLess, AtMost, Less}
 use Rattle.smt_blast.specs.declared.circuit.Connective.{Connective}

@@ -3,7 +3,7 @@ use Rattle.std.specs.Prelude.{◌≡◌, ℕ, IsTrue, List, Option, None, Some, 
 use Rattle.std.specs.List.{AllByRecursion}
 use Rattle.law_terms.specs.Nodes.{TermMeaning}
 use Rattle.law_terms.specs.Plain.{PlainOp, PlainTerm, PlainTerms, PlainType, Application, VariableTerm, list_of_terms}
-use Rattle.law_terms.specs.Reached.{variable_of}
+use Rattle.law_terms.specs.Reached.{reached_variable}
 use Rattle.law_terms.specs.Typing.{typed}
 use Rattle.law_blasting.specs.Blasted.{AreNumbered, Variables, number_from}
 use Rattle.law_blasting.specs.Passing.{Related}
@@ -35,8 +35,9 @@ pub record IsSeen (old : Interner) (marks : List (Option Seen)) (vs : Variables)
   pub typed : IsTrue (typed term)
   pub taken : term_refusal term ≡ None
   pub numbered : AreNumbered vs term
-  pub own : (v : List ℕ × PlainType) → variable_of term ≡ Some v → s.number ≡ number_from 0 vs v
-  pub parts : (o : PlainOp) (ts : PlainTerms) (t : PlainType) → term ≡ Application o ts t → AllByRecursion (HasMark old marks) (list_of_terms ts)
+  pub own : (v : List ℕ × PlainType) → reached_variable term ≡ Some v → s.number ≡ number_from 0 vs v
+  pub parts : (o : PlainOp) (ts : PlainTerms) (t : PlainType) → term ≡ Application o ts t →
+      AllByRecursion (HasMark old marks) (list_of_terms ts)
 
 -- a number stands for this variable
 abbrev pub IsVariable : Interner → NodeId → (List ℕ × PlainType) → Type 0

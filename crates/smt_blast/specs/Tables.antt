@@ -27,7 +27,9 @@ pub record HasBits (i : Interner) (table : List IdList) (id : NodeId) (us : List
 
 -- the table has at each old node with a mark, as far as it goes, the blasted terms of the node's term
 abbrev pub IsTable : Interner → List (Option Seen) → Variables → Interner → List IdList → Type 0
-IsTable old marks vs i table = (id : NodeId) (s : Seen) (t : PlainTerm) → place_of id < length table → mark_in marks (place_of id) ≡ Some s → meaning_in old id ≡ Some (TermMeaning t) → HasBits i table id (blasted vs t)
+IsTable old marks vs i table =
+    (id : NodeId) (s : Seen) (t : PlainTerm) → place_of id < length table → mark_in marks (place_of id) ≡ Some s →
+    meaning_in old id ≡ Some (TermMeaning t) → HasBits i table id (blasted vs t)
 
 -- the mark that the next entry of a table is for is one of these marks, at the place of the entry
 abbrev pub IsNext : Interner → List (Option Seen) → Variables → List IdList → Option Seen → Type 0

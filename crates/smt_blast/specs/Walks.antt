@@ -31,5 +31,6 @@ Refuses r Memory = Unit {0}
 -- What a walk over some of the old nodes answers, where the stated walk is this: it has seen the stated variables, and has marks of these
 -- nodes beside those that it had; or it has the stated refusal.
 abbrev pub Walks : Interner → Walk → Walk → Result Variables Refusal → List NodeId → Result (Unit {0}) BlastError → Type 0
-Walks old w x r ids (Ok _) = (ws : Variables) × (r ≡ Ok ws) × IsWalk old x ws × KeepsMarks w.marks.items x.marks.items × AllByRecursion (IsMarked x.marks.items) ids
+Walks old w x r ids (Ok _) =
+    (ws : Variables) × (r ≡ Ok ws) × IsWalk old x ws × KeepsMarks w.marks.items x.marks.items × AllByRecursion (IsMarked x.marks.items) ids
 Walks old w x r ids (Err e) = Refuses r e

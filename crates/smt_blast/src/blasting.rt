@@ -26,7 +26,8 @@ use std::alloc::Global;
 
 /// The variable for which a number stands, with its number among the variables.
 fn variable_at(old: &Interner, id: NodeId, number: usize) -> Result<BitVar, TermError>
-    ensures { (v : List ℕ × PlainType) → IsVariable old.now id v → IfOk result (λ var. plain_bit_var var ≡ record { variable = v; number = number }) }
+    ensures { (v : List ℕ × PlainType) → IsVariable old.now id v →
+        IfOk result (λ var. plain_bit_var var ≡ record { variable = v; number = number }) }
 {
     let Some((ty, _)) = old.parts(id).split_first() else {
         return Err(TermError::Memory);
@@ -43,7 +44,8 @@ fn variable_at(old: &Interner, id: NodeId, number: usize) -> Result<BitVar, Term
 
 /// The variables for which numbers stand, in order.
 fn variables_at(alloc: Global, old: &Interner, ids: &[NodeId]) -> Result<BitVarList, TermError>
-    ensures { (vs : Variables) → Related (IsVariable old.now) ids.now vs → IfOk result (λ list. plain_bit_vars list ≡ numbered_from 0 vs) }
+    ensures { (vs : Variables) → Related (IsVariable old.now) ids.now vs →
+        IfOk result (λ list. plain_bit_vars list ≡ numbered_from 0 vs) }
 {
     let mut vars = BitVarList::new(alloc);
     for id in ids {
@@ -66,11 +68,16 @@ fn variables_at(alloc: Global, old: &Interner, ids: &[NodeId]) -> Result<BitVarL
 /// a bitvector type, whichever the walk meets first; `Memory`, where there is none for the new terms.
 pub fn blast(alloc: Global, old: &Interner, roots: &[NodeId]) -> Result<Blasted, BlastError>
     requires { (ts : List PlainTerm) × StandFor old.now roots.now ts × AreBoolean ts }
-    ensures roots { (ts : List PlainTerm) → StandFor old.now roots.now ts → AreBoolean ts → IfOk result (λ b. StandFor b.nodes (ids_of b.roots) (new_roots ts)) }
-    ensures vars { (ts : List PlainTerm) → StandFor old.now roots.now ts → AreBoolean ts → IfOk result (λ b. plain_bit_vars b.vars ≡ numbered_from 0 (variables_of ts)) }
-    ensures faithful { (enums : Enums) (ts : List PlainTerm) → StandFor old.now roots.now ts → AreBoolean ts → OnOk result (AreFaithful enums ts) }
-    ensures few { IfOk result (λ b. length (nodes_of b.nodes) ≤ 1 + 4096 * length (nodes_of old.now)) }
-    ensures refused { (ts : List PlainTerm) → StandFor old.now roots.now ts → AreBoolean ts → Answers (first_refusal ts) result }
+    ensures roots { (ts : List PlainTerm) → StandFor old.now roots.now ts → AreBoolean ts →
+        IfOk result (λ b. StandFor b.nodes (ids_of b.roots) (new_roots ts)) }
+    ensures vars { (ts : List PlainTerm) → StandFor old.now roots.now ts → AreBoolean ts →
+        IfOk result (λ b. plain_bit_vars b.vars ≡ numbered_from 0 (variables_of ts)) }
+    ensures faithful { (enums : Enums) (ts : List PlainTerm) → StandFor old.now roots.now ts →
+        AreBoolean ts → OnOk result (AreFaithful enums ts) }
+    ensures few { IfOk result
+        (λ b. length (nodes_of b.nodes) ≤ 1 + 4096 * length (nodes_of old.now)) }
+    ensures refused { (ts : List PlainTerm) → StandFor old.now roots.now ts → AreBoolean ts →
+        Answers (first_refusal ts) result }
 {
     if roots.is_empty() {
         return Ok(Blasted {

@@ -35,8 +35,11 @@ fn push_with_top(bits: &mut Vec<NodeId>, xs: &[NodeId], ys: &[NodeId]) -> Result
 impl Gates {
     /// Whether each bit is the one at its place.
     pub(crate) fn equal(&mut self, xs: &[NodeId], ys: &[NodeId]) -> Result<NodeId, TermError>
-        ensures bit { (us vs : List PlainTerm) → AreBits self.old.nodes xs.now us → AreBits self.old.nodes ys.now vs → IfOk result (λ id. Stands self.new.nodes id (equal term_gates us vs)) }
-        ensures grows { OnOk result (Grows self.old.nodes self.new.nodes (equal_size (length xs.now))) }
+        ensures bit { (us vs : List PlainTerm) → AreBits self.old.nodes xs.now us →
+            AreBits self.old.nodes ys.now vs →
+            IfOk result (λ id. Stands self.new.nodes id (equal term_gates us vs)) }
+        ensures grows { OnOk result
+            (Grows self.old.nodes self.new.nodes (equal_size (length xs.now))) }
     {
         let Some((x, xs)) = xs.split_first() else {
             return Ok(self.yes());
@@ -60,8 +63,11 @@ impl Gates {
         ys: &[NodeId],
         borrow: NodeId,
     ) -> Result<NodeId, TermError>
-        ensures bit { (us vs : List PlainTerm) (c : PlainTerm) → AreBits self.old.nodes xs.now us → AreBits self.old.nodes ys.now vs → Stands self.old.nodes borrow c → IfOk result (λ id. Stands self.new.nodes id (borrow_out term_gates us vs c)) }
-        ensures grows { OnOk result (Grows self.old.nodes self.new.nodes (carry_size (length xs.now))) }
+        ensures bit { (us vs : List PlainTerm) (c : PlainTerm) → AreBits self.old.nodes xs.now us →
+            AreBits self.old.nodes ys.now vs → Stands self.old.nodes borrow c →
+            IfOk result (λ id. Stands self.new.nodes id (borrow_out term_gates us vs c)) }
+        ensures grows { OnOk result
+            (Grows self.old.nodes self.new.nodes (carry_size (length xs.now))) }
     {
         let Some((x, xs)) = xs.split_first() else {
             return Ok(borrow);
@@ -76,8 +82,12 @@ impl Gates {
 
     /// Whether the first is less.
     fn less(&mut self, xs: &[NodeId], ys: &[NodeId]) -> Result<NodeId, TermError>
-        ensures bit { (us vs : List PlainTerm) → AreBits self.old.nodes xs.now us → AreBits self.old.nodes ys.now vs → IfOk result (λ id. Stands self.new.nodes id (borrow_out term_gates us vs term_gates.no)) }
-        ensures grows { OnOk result (Grows self.old.nodes self.new.nodes (carry_size (length xs.now))) }
+        ensures bit { (us vs : List PlainTerm) → AreBits self.old.nodes xs.now us →
+            AreBits self.old.nodes ys.now vs →
+            IfOk result
+            (λ id. Stands self.new.nodes id (borrow_out term_gates us vs term_gates.no)) }
+        ensures grows { OnOk result
+            (Grows self.old.nodes self.new.nodes (carry_size (length xs.now))) }
     {
         let no = self.no();
         self.borrow_out(xs, ys, no)
@@ -85,8 +95,13 @@ impl Gates {
 
     /// Whether the first is less in two's complement.
     fn signed_less(&mut self, xs: &[NodeId], ys: &[NodeId]) -> Result<NodeId, TermError>
-        ensures bit { (us vs : List PlainTerm) → AreBits self.old.nodes xs.now us → AreBits self.old.nodes ys.now vs → IfOk result (λ id. Stands self.new.nodes id (borrow_out term_gates (with_top us vs) (with_top vs us) term_gates.no)) }
-        ensures grows { OnOk result (Grows self.old.nodes self.new.nodes (carry_size (length xs.now))) }
+        ensures bit { (us vs : List PlainTerm) → AreBits self.old.nodes xs.now us →
+            AreBits self.old.nodes ys.now vs →
+            IfOk result (λ id.
+            Stands self.new.nodes id
+            (borrow_out term_gates (with_top us vs) (with_top vs us) term_gates.no)) }
+        ensures grows { OnOk result
+            (Grows self.old.nodes self.new.nodes (carry_size (length xs.now))) }
     {
         let mut low = Vec::with_capacity(self.alloc, xs.len())?;
         push_with_top(&mut low, xs, ys)?;
@@ -102,8 +117,12 @@ impl Gates {
         xs: &[NodeId],
         ys: &[NodeId],
     ) -> Result<NodeId, TermError>
-        ensures bit { (us vs : List PlainTerm) → AreBits self.old.nodes xs.now us → AreBits self.old.nodes ys.now vs → IfOk result (λ id. Stands self.new.nodes id (test_circuit term_gates (test_of comparison) us vs)) }
-        ensures grows { OnOk result (Grows self.old.nodes self.new.nodes (carry_size (length xs.now + length ys.now) + 1)) }
+        ensures bit { (us vs : List PlainTerm) → AreBits self.old.nodes xs.now us →
+            AreBits self.old.nodes ys.now vs →
+            IfOk result
+            (λ id. Stands self.new.nodes id (test_circuit term_gates (test_of comparison) us vs)) }
+        ensures grows { OnOk result
+            (Grows self.old.nodes self.new.nodes (carry_size (length xs.now + length ys.now) + 1)) }
     {
         match comparison {
             Comparison::Less => self.less(xs, ys),

@@ -1,5 +1,6 @@
 // Gates over numbered Boolean terms.
-ghost use Rattle.std.specs.Prelude.{◌≡◌, ◌+◌, ◌≤◌, IfOk, IsTrue, List, OnOk, Some, false, length, true};
+ghost use Rattle.std.specs.Prelude.{◌≡◌, ◌+◌, ◌≤◌, IfOk, IsTrue, List, OnOk, Some, false, length};
+ghost use Rattle.std.specs.Prelude.{true};
 ghost use Rattle.law_blasting.specs.OperatorCircuits.{term_gates};
 ghost use Rattle.law_terms.specs.Meanings.{all_found, meanings, stands_for};
 ghost use Rattle.law_terms.specs.Nodes.{Meaning, TypeMeaning};
@@ -32,7 +33,9 @@ fn enter(
     label: Label,
     parts: &[NodeId],
 ) -> Result<NodeId, TermError>
-    ensures meaning { (ms : List Meaning) → all_found (meanings (nodes_of nodes.old)) (places_of parts.now) ≡ Some ms → IfOk result (λ id. meaning_in nodes.new id ≡ stands_for (plain_label label) ms) }
+    ensures meaning { (ms : List Meaning) →
+        all_found (meanings (nodes_of nodes.old)) (places_of parts.now) ≡ Some ms →
+        IfOk result (λ id. meaning_in nodes.new id ≡ stands_for (plain_label label) ms) }
     ensures kept { KeepsMeanings nodes.old nodes.new }
     ensures few { OnOk result (length (nodes_of nodes.new) ≤ length (nodes_of nodes.old) + 1) }
 {
@@ -117,7 +120,9 @@ impl Gates {
 
     // The number of the node of a label and of parts.
     pub(crate) fn enter(&mut self, label: Label, parts: &[NodeId]) -> Result<NodeId, TermError>
-        ensures meaning { (ms : List Meaning) → all_found (meanings (nodes_of self.old.nodes)) (places_of parts.now) ≡ Some ms → IfOk result (λ id. meaning_in self.new.nodes id ≡ stands_for (plain_label label) ms) }
+        ensures meaning { (ms : List Meaning) →
+            all_found (meanings (nodes_of self.old.nodes)) (places_of parts.now) ≡ Some ms →
+            IfOk result (λ id. meaning_in self.new.nodes id ≡ stands_for (plain_label label) ms) }
         ensures grows { OnOk result (Grows self.old.nodes self.new.nodes 1) }
     {
         enter(self.alloc, &mut self.nodes, label, parts)
@@ -125,7 +130,8 @@ impl Gates {
 
     /// Negation.
     pub(crate) fn not(&mut self, a: NodeId) -> Result<NodeId, TermError>
-        ensures bit { (u : PlainTerm) → Stands self.old.nodes a u → IfOk result (λ id. Stands self.new.nodes id (term_gates.not u)) }
+        ensures bit { (u : PlainTerm) → Stands self.old.nodes a u →
+            IfOk result (λ id. Stands self.new.nodes id (term_gates.not u)) }
         ensures grows { OnOk result (Grows self.old.nodes self.new.nodes 1) }
     {
         self.enter(Label::App(Op::Not), &[self.bool_type, a])
@@ -133,7 +139,8 @@ impl Gates {
 
     /// Conjunction.
     pub(crate) fn and(&mut self, a: NodeId, b: NodeId) -> Result<NodeId, TermError>
-        ensures bit { (u v : PlainTerm) → Stands self.old.nodes a u → Stands self.old.nodes b v → IfOk result (λ id. Stands self.new.nodes id (term_gates.and u v)) }
+        ensures bit { (u v : PlainTerm) → Stands self.old.nodes a u → Stands self.old.nodes b v →
+            IfOk result (λ id. Stands self.new.nodes id (term_gates.and u v)) }
         ensures grows { OnOk result (Grows self.old.nodes self.new.nodes 1) }
     {
         self.enter(Label::App(Op::And), &[self.bool_type, a, b])
@@ -141,7 +148,8 @@ impl Gates {
 
     /// Disjunction.
     pub(crate) fn or(&mut self, a: NodeId, b: NodeId) -> Result<NodeId, TermError>
-        ensures bit { (u v : PlainTerm) → Stands self.old.nodes a u → Stands self.old.nodes b v → IfOk result (λ id. Stands self.new.nodes id (term_gates.or u v)) }
+        ensures bit { (u v : PlainTerm) → Stands self.old.nodes a u → Stands self.old.nodes b v →
+            IfOk result (λ id. Stands self.new.nodes id (term_gates.or u v)) }
         ensures grows { OnOk result (Grows self.old.nodes self.new.nodes 1) }
     {
         self.enter(Label::App(Op::Or), &[self.bool_type, a, b])
@@ -149,7 +157,8 @@ impl Gates {
 
     /// Equality.
     pub(crate) fn eq(&mut self, a: NodeId, b: NodeId) -> Result<NodeId, TermError>
-        ensures bit { (u v : PlainTerm) → Stands self.old.nodes a u → Stands self.old.nodes b v → IfOk result (λ id. Stands self.new.nodes id (term_gates.eq u v)) }
+        ensures bit { (u v : PlainTerm) → Stands self.old.nodes a u → Stands self.old.nodes b v →
+            IfOk result (λ id. Stands self.new.nodes id (term_gates.eq u v)) }
         ensures grows { OnOk result (Grows self.old.nodes self.new.nodes 1) }
     {
         self.enter(Label::App(Op::Eq), &[self.bool_type, a, b])
@@ -157,7 +166,9 @@ impl Gates {
 
     /// A choice by the first.
     pub(crate) fn ite(&mut self, a: NodeId, b: NodeId, c: NodeId) -> Result<NodeId, TermError>
-        ensures bit { (u v w : PlainTerm) → Stands self.old.nodes a u → Stands self.old.nodes b v → Stands self.old.nodes c w → IfOk result (λ id. Stands self.new.nodes id (term_gates.ite u v w)) }
+        ensures bit { (u v w : PlainTerm) → Stands self.old.nodes a u → Stands self.old.nodes b v →
+            Stands self.old.nodes c w →
+            IfOk result (λ id. Stands self.new.nodes id (term_gates.ite u v w)) }
         ensures grows { OnOk result (Grows self.old.nodes self.new.nodes 1) }
     {
         self.enter(Label::App(Op::Ite), &[self.bool_type, a, b, c])

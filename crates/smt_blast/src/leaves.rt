@@ -23,7 +23,9 @@ use smt_term::{TermError, TermPrim, Text};
 impl Gates {
     /// Appends the lowest bits of a number.
     fn push_number(&self, bits: &mut Vec<NodeId>, number: u128, count: u32) -> Result<(), TermError>
-        ensures { (ts : List PlainTerm) → AreBits self.now.nodes bits.old.items ts → OnOk result (AreBits self.now.nodes bits.new.items (ts ++ literals (number_bits count number))) }
+        ensures { (ts : List PlainTerm) → AreBits self.now.nodes bits.old.items ts →
+            OnOk result
+            (AreBits self.now.nodes bits.new.items (ts ++ literals (number_bits count number))) }
     {
         if count == 0 {
             return Ok(());
@@ -34,7 +36,10 @@ impl Gates {
 
     /// The bits of a literal.
     pub(crate) fn literal_bits(&self, literal: &TermPrim) -> Result<Vec<NodeId>, TermError>
-        ensures { IfOk result (λ bits. AreBits self.now.nodes bits.items (literals (value_bits (literal_type (plain_literal literal.now)) (literal_value (plain_literal literal.now))))) }
+        ensures { IfOk result (λ bits.
+            AreBits self.now.nodes bits.items (literals (value_bits
+            (literal_type (plain_literal literal.now))
+            (literal_value (plain_literal literal.now))))) }
     {
         let mut bits = Vec::new(self.alloc);
         match literal {
@@ -54,7 +59,8 @@ impl Gates {
 
     /// The new variable of a name.
     fn variable(&mut self, name: Text) -> Result<NodeId, TermError>
-        ensures bit { IfOk result (λ id. Stands self.new.nodes id (new_variable (rc_str_bytes name))) }
+        ensures bit { IfOk result
+            (λ id. Stands self.new.nodes id (new_variable (rc_str_bytes name))) }
         ensures grows { OnOk result (Grows self.old.nodes self.new.nodes 1) }
     {
         let ty = self.bool_type();
@@ -70,7 +76,9 @@ impl Gates {
         count: u32,
     ) -> Result<(), TermError>
         requires { place + count ≤ 128 }
-        ensures bits { (ts : List PlainTerm) → AreBits self.old.nodes bits.old.items ts → OnOk result (AreBits self.new.nodes bits.new.items (ts ++ map new_variable (bit_names number place count))) }
+        ensures bits { (ts : List PlainTerm) → AreBits self.old.nodes bits.old.items ts →
+            OnOk result (AreBits self.new.nodes bits.new.items
+            (ts ++ map new_variable (bit_names number place count))) }
         ensures grows { OnOk result (Grows self.old.nodes self.new.nodes count) }
     {
         if count == 0 {
@@ -84,7 +92,9 @@ impl Gates {
 
     /// The new variables of a variable.
     fn variable_bits(&mut self, sort: Sort, number: usize) -> Result<Vec<NodeId>, TermError>
-        ensures bits { IfOk result (λ bits. AreBits self.new.nodes bits.items (map new_variable (new_names number (plain_sort sort)))) }
+        ensures bits { IfOk result (λ bits.
+            AreBits self.new.nodes bits.items
+            (map new_variable (new_names number (plain_sort sort)))) }
         ensures grows { OnOk result (Grows self.old.nodes self.new.nodes 128) }
     {
         let mut bits = Vec::new(self.alloc);
@@ -109,7 +119,10 @@ impl Gates {
         ty: NodeId,
         number: usize,
     ) -> Result<Vec<NodeId>, TermError>
-        ensures bits { (t : PlainType) → meaning_in old.now ty ≡ Some (TypeMeaning t) → type_refusal t ≡ None → IfOk result (λ bits. AreBits self.new.nodes bits.items (map new_variable (new_names number t))) }
+        ensures bits { (t : PlainType) → meaning_in old.now ty ≡ Some (TypeMeaning t) →
+            type_refusal t ≡ None →
+            IfOk result
+            (λ bits. AreBits self.new.nodes bits.items (map new_variable (new_names number t))) }
         ensures grows { OnOk result (Grows self.old.nodes self.new.nodes 128) }
     {
         match sort_at(old, ty) {

@@ -16,7 +16,8 @@ use smt_term::TermError;
 impl Gates {
     /// The one bit of a Boolean.
     pub(crate) fn the_bit(&self, bits: &[NodeId]) -> NodeId
-        ensures { (us : List PlainTerm) → AreBits self.now.nodes bits.now us → Stands self.now.nodes result (the_bit term_gates us) }
+        ensures { (us : List PlainTerm) → AreBits self.now.nodes bits.now us →
+            Stands self.now.nodes result (the_bit term_gates us) }
     {
         match bits.first() {
             Some(bit) => *bit,
@@ -26,7 +27,8 @@ impl Gates {
 
     // The one bit of an answer, as a list.
     fn alone(&self, bit: NodeId) -> Result<Vec<NodeId>, TermError>
-        ensures { (u : PlainTerm) → Stands self.now.nodes bit u → IfOk result (λ bits. AreBits self.now.nodes bits.items (u ∷ [])) }
+        ensures { (u : PlainTerm) → Stands self.now.nodes bit u →
+            IfOk result (λ bits. AreBits self.now.nodes bits.items (u ∷ [])) }
     {
         let mut bits = Vec::with_capacity(self.alloc, 1)?;
         bits.push(bit)?;
@@ -35,8 +37,12 @@ impl Gates {
 
     // The bits of a sum or of a difference.
     fn sum(&mut self, chain: Chain, xs: &[NodeId], ys: &[NodeId]) -> Result<Vec<NodeId>, TermError>
-        ensures bits { (us vs : List PlainTerm) → AreBits self.old.nodes xs.now us → AreBits self.old.nodes ys.now vs → IfOk result (λ bits. AreBits self.new.nodes bits.items (added term_gates chain us vs term_gates.no)) }
-        ensures grows { OnOk result (Grows self.old.nodes self.new.nodes (sum_size (length xs.now))) }
+        ensures bits { (us vs : List PlainTerm) → AreBits self.old.nodes xs.now us →
+            AreBits self.old.nodes ys.now vs →
+            IfOk result (λ bits.
+            AreBits self.new.nodes bits.items (added term_gates chain us vs term_gates.no)) }
+        ensures grows { OnOk result
+            (Grows self.old.nodes self.new.nodes (sum_size (length xs.now))) }
     {
         let no = self.no();
         let mut sum = Vec::with_capacity(self.alloc, xs.len())?;
@@ -51,8 +57,13 @@ impl Gates {
         xs: &[NodeId],
         ys: &[NodeId],
     ) -> Result<Vec<NodeId>, TermError>
-        ensures bits { (us vs : List PlainTerm) → AreBits self.old.nodes xs.now us → AreBits self.old.nodes ys.now vs → IfOk result (λ bits. AreBits self.new.nodes bits.items (leaves_range term_gates chain us vs term_gates.no ∷ [])) }
-        ensures grows { OnOk result (Grows self.old.nodes self.new.nodes (overflow_size (length xs.now))) }
+        ensures bits { (us vs : List PlainTerm) → AreBits self.old.nodes xs.now us →
+            AreBits self.old.nodes ys.now vs →
+            IfOk result (λ bits.
+            AreBits self.new.nodes bits.items
+            (leaves_range term_gates chain us vs term_gates.no ∷ [])) }
+        ensures grows { OnOk result
+            (Grows self.old.nodes self.new.nodes (overflow_size (length xs.now))) }
     {
         let no = self.no();
         let bit = self.overflow(chain, xs, ys, no)?;
@@ -65,7 +76,10 @@ impl Gates {
         connective: Connective,
         xs: &[NodeId],
     ) -> Result<Vec<NodeId>, TermError>
-        ensures bits { (us : List PlainTerm) → AreBits self.old.nodes xs.now us → IfOk result (λ bits. AreBits self.new.nodes bits.items (operator_circuit term_gates (connective_of connective) (us ∷ []))) }
+        ensures bits { (us : List PlainTerm) → AreBits self.old.nodes xs.now us →
+            IfOk result (λ bits.
+            AreBits self.new.nodes bits.items
+            (operator_circuit term_gates (connective_of connective) (us ∷ []))) }
         ensures grows { OnOk result (Grows self.old.nodes self.new.nodes 1) }
     {
         match connective {
@@ -84,7 +98,11 @@ impl Gates {
         xs: &[NodeId],
         ys: &[NodeId],
     ) -> Result<Vec<NodeId>, TermError>
-        ensures bits { (us vs : List PlainTerm) → AreBits self.old.nodes xs.now us → AreBits self.old.nodes ys.now vs → IfOk result (λ bits. AreBits self.new.nodes bits.items (operator_circuit term_gates (connective_of connective) (us ∷ vs ∷ []))) }
+        ensures bits { (us vs : List PlainTerm) → AreBits self.old.nodes xs.now us →
+            AreBits self.old.nodes ys.now vs →
+            IfOk result (λ bits.
+            AreBits self.new.nodes bits.items
+            (operator_circuit term_gates (connective_of connective) (us ∷ vs ∷ []))) }
         ensures grows { OnOk result (Grows self.old.nodes self.new.nodes 1) }
     {
         let a = self.the_bit(xs);
@@ -108,8 +126,12 @@ impl Gates {
         circuit: Circuit,
         xs: &[NodeId],
     ) -> Result<Vec<NodeId>, TermError>
-        ensures bits { (us : List PlainTerm) → AreBits self.old.nodes xs.now us → IfOk result (λ bits. AreBits self.new.nodes bits.items (operator_circuit term_gates (operator_of circuit) (us ∷ []))) }
-        ensures grows { length xs.now ≤ 128 → OnOk result (Grows self.old.nodes self.new.nodes 2048) }
+        ensures bits { (us : List PlainTerm) → AreBits self.old.nodes xs.now us →
+            IfOk result (λ bits.
+            AreBits self.new.nodes bits.items
+            (operator_circuit term_gates (operator_of circuit) (us ∷ []))) }
+        ensures grows { length xs.now ≤ 128 →
+            OnOk result (Grows self.old.nodes self.new.nodes 2048) }
     {
         match circuit {
             Circuit::Logic(connective) => self.connect_one(connective, xs),
@@ -142,8 +164,13 @@ impl Gates {
         xs: &[NodeId],
         ys: &[NodeId],
     ) -> Result<Vec<NodeId>, TermError>
-        ensures bits { (us vs : List PlainTerm) → length xs.now ≤ 128 → AreBits self.old.nodes xs.now us → AreBits self.old.nodes ys.now vs → IfOk result (λ bits. AreBits self.new.nodes bits.items (operator_circuit term_gates (operator_of circuit) (us ∷ vs ∷ []))) }
-        ensures grows { length xs.now ≤ 128 → length ys.now ≤ 128 → OnOk result (Grows self.old.nodes self.new.nodes 2048) }
+        ensures bits { (us vs : List PlainTerm) → length xs.now ≤ 128 →
+            AreBits self.old.nodes xs.now us → AreBits self.old.nodes ys.now vs →
+            IfOk result (λ bits.
+            AreBits self.new.nodes bits.items
+            (operator_circuit term_gates (operator_of circuit) (us ∷ vs ∷ []))) }
+        ensures grows { length xs.now ≤ 128 → length ys.now ≤ 128 →
+            OnOk result (Grows self.old.nodes self.new.nodes 2048) }
     {
         match circuit {
             Circuit::Logic(connective) => self.connect_two(connective, xs, ys),
@@ -173,8 +200,13 @@ impl Gates {
         xs: &[NodeId],
         ys: &[NodeId],
     ) -> Result<Vec<NodeId>, TermError>
-        ensures bits { (gs us vs : List PlainTerm) → AreBits self.old.nodes guard.now gs → AreBits self.old.nodes xs.now us → AreBits self.old.nodes ys.now vs → IfOk result (λ bits. AreBits self.new.nodes bits.items (operator_circuit term_gates (operator_of circuit) (gs ∷ us ∷ vs ∷ []))) }
-        ensures grows { length xs.now ≤ 128 → OnOk result (Grows self.old.nodes self.new.nodes 2048) }
+        ensures bits { (gs us vs : List PlainTerm) → AreBits self.old.nodes guard.now gs →
+            AreBits self.old.nodes xs.now us → AreBits self.old.nodes ys.now vs →
+            IfOk result (λ bits.
+            AreBits self.new.nodes bits.items
+            (operator_circuit term_gates (operator_of circuit) (gs ∷ us ∷ vs ∷ []))) }
+        ensures grows { length xs.now ≤ 128 →
+            OnOk result (Grows self.old.nodes self.new.nodes 2048) }
     {
         match circuit {
             Circuit::Choice => {

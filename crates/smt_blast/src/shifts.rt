@@ -36,9 +36,15 @@ impl Gates {
         ys: &[NodeId],
         chosen: &mut Vec<NodeId>,
     ) -> Result<(), TermError>
-        ensures bits { (us vs ts : List PlainTerm) (c : PlainTerm) → Stands self.old.nodes bit c → AreBits self.old.nodes xs.now us → AreBits self.old.nodes ys.now vs → AreBits self.old.nodes chosen.old.items ts → OnOk result (AreBits self.new.nodes chosen.new.items (ts ++ choose term_gates c us vs)) }
-        ensures count { length xs.now ≡ length ys.now → OnOk result (length chosen.new.items ≡ length chosen.old.items + length xs.now) }
-        ensures grows { OnOk result (Grows self.old.nodes self.new.nodes (choose_size (length xs.now))) }
+        ensures bits { (us vs ts : List PlainTerm) (c : PlainTerm) → Stands self.old.nodes bit c →
+            AreBits self.old.nodes xs.now us → AreBits self.old.nodes ys.now vs →
+            AreBits self.old.nodes chosen.old.items ts →
+            OnOk result
+            (AreBits self.new.nodes chosen.new.items (ts ++ choose term_gates c us vs)) }
+        ensures count { length xs.now ≡ length ys.now →
+            OnOk result (length chosen.new.items ≡ length chosen.old.items + length xs.now) }
+        ensures grows { OnOk result
+            (Grows self.old.nodes self.new.nodes (choose_size (length xs.now))) }
     {
         let Some((x, xs)) = xs.split_first() else {
             return Ok(());
@@ -59,7 +65,9 @@ impl Gates {
         xs: &[NodeId],
     ) -> Result<Vec<NodeId>, TermError>
         requires { places ≤ length xs.now }
-        ensures bits { (us : List PlainTerm) → AreBits self.now.nodes xs.now us → IfOk result (λ bits. AreBits self.now.nodes bits.items (moved term_gates direction places us)) }
+        ensures bits { (us : List PlainTerm) → AreBits self.now.nodes xs.now us →
+            IfOk result
+            (λ bits. AreBits self.now.nodes bits.items (moved term_gates direction places us)) }
         ensures count { IfOk result (λ bits. length bits.items ≡ length xs.now) }
     {
         let mut bits = Vec::with_capacity(self.alloc, xs.len())?;
@@ -79,7 +87,8 @@ impl Gates {
 
     /// As many zeros as there are bits.
     pub(crate) fn zeros(&self, xs: &[NodeId]) -> Result<Vec<NodeId>, TermError>
-        ensures bits { (us : List PlainTerm) → AreBits self.now.nodes xs.now us → IfOk result (λ bits. AreBits self.now.nodes bits.items (zeros term_gates us)) }
+        ensures bits { (us : List PlainTerm) → AreBits self.now.nodes xs.now us →
+            IfOk result (λ bits. AreBits self.now.nodes bits.items (zeros term_gates us)) }
         ensures count { IfOk result (λ bits. length bits.items ≡ length xs.now) }
     {
         let mut zeros = Vec::with_capacity(self.alloc, xs.len())?;
@@ -89,7 +98,8 @@ impl Gates {
 
     /// Whether any bit is set.
     fn any_of(&mut self, bits: &[NodeId]) -> Result<NodeId, TermError>
-        ensures bit { (us : List PlainTerm) → AreBits self.old.nodes bits.now us → IfOk result (λ id. Stands self.new.nodes id (any_of term_gates us)) }
+        ensures bit { (us : List PlainTerm) → AreBits self.old.nodes bits.now us →
+            IfOk result (λ id. Stands self.new.nodes id (any_of term_gates us)) }
         ensures grows { OnOk result (Grows self.old.nodes self.new.nodes (length bits.now)) }
     {
         match bits.split_first() {
@@ -109,8 +119,14 @@ impl Gates {
         amount: &[NodeId],
         xs: &[NodeId],
     ) -> Result<Vec<NodeId>, TermError>
-        ensures bits { (us vs : List PlainTerm) → length xs.now ≤ 128 → AreBits self.old.nodes amount.now vs → AreBits self.old.nodes xs.now us → IfOk result (λ bits. AreBits self.new.nodes bits.items (shift term_gates (moved term_gates direction) (length xs.now) places vs us)) }
-        ensures grows { length xs.now ≤ 128 → OnOk result (Grows self.old.nodes self.new.nodes (shift_size (length xs.now) places (length amount.now))) }
+        ensures bits { (us vs : List PlainTerm) → length xs.now ≤ 128 →
+            AreBits self.old.nodes amount.now vs → AreBits self.old.nodes xs.now us →
+            IfOk result (λ bits.
+            AreBits self.new.nodes bits.items
+            (shift term_gates (moved term_gates direction) (length xs.now) places vs us)) }
+        ensures grows { length xs.now ≤ 128 →
+            OnOk result (Grows self.old.nodes self.new.nodes
+            (shift_size (length xs.now) places (length amount.now))) }
     {
         let mut bits = Vec::with_capacity(self.alloc, xs.len())?;
         let Some((bit, higher)) = amount.split_first() else {

@@ -20,8 +20,10 @@ pub(crate) enum Sort {
 
 /// The type for which a number stands, where it is blasted. Takes no memory.
 pub(crate) fn sort_at(old: &Interner, ty: NodeId) -> Option<Sort>
-    ensures found { (t : PlainType) → meaning_in old.now ty ≡ Some (TypeMeaning t) → IfSome result (λ sort. t ≡ plain_sort sort) }
-    ensures none { (t : PlainType) → meaning_in old.now ty ≡ Some (TypeMeaning t) → IfNone result (type_refusal t ≡ Some (UnsupportedType t)) }
+    ensures found { (t : PlainType) → meaning_in old.now ty ≡ Some (TypeMeaning t) →
+        IfSome result (λ sort. t ≡ plain_sort sort) }
+    ensures none { (t : PlainType) → meaning_in old.now ty ≡ Some (TypeMeaning t) →
+        IfNone result (type_refusal t ≡ Some (UnsupportedType t)) }
 {
     match old.label(ty) {
         Some(Label::TBool) => Some(Sort::Truth),

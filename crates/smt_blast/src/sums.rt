@@ -20,7 +20,10 @@ impl Gates {
         bits: (NodeId, NodeId),
         carry: NodeId,
     ) -> Result<NodeId, TermError>
-        ensures bit { (u v c : PlainTerm) → Stands self.old.nodes equal (term_gates.eq u v) → Stands self.old.nodes bits.0 u → Stands self.old.nodes bits.1 v → Stands self.old.nodes carry c → IfOk result (λ id. Stands self.new.nodes id (passed_on term_gates chain u v c)) }
+        ensures bit { (u v c : PlainTerm) → Stands self.old.nodes equal (term_gates.eq u v) →
+            Stands self.old.nodes bits.0 u → Stands self.old.nodes bits.1 v →
+            Stands self.old.nodes carry c →
+            IfOk result (λ id. Stands self.new.nodes id (passed_on term_gates chain u v c)) }
         ensures grows { OnOk result (Grows self.old.nodes self.new.nodes 1) }
     {
         match chain {
@@ -38,8 +41,13 @@ impl Gates {
         carry: NodeId,
         sum: &mut Vec<NodeId>,
     ) -> Result<(), TermError>
-        ensures bits { (us vs ts : List PlainTerm) (c : PlainTerm) → AreBits self.old.nodes xs.now us → AreBits self.old.nodes ys.now vs → Stands self.old.nodes carry c → AreBits self.old.nodes sum.old.items ts → OnOk result (AreBits self.new.nodes sum.new.items (ts ++ added term_gates chain us vs c)) }
-        ensures grows { OnOk result (Grows self.old.nodes self.new.nodes (sum_size (length xs.now))) }
+        ensures bits { (us vs ts : List PlainTerm) (c : PlainTerm) →
+            AreBits self.old.nodes xs.now us → AreBits self.old.nodes ys.now vs →
+            Stands self.old.nodes carry c → AreBits self.old.nodes sum.old.items ts →
+            OnOk result
+            (AreBits self.new.nodes sum.new.items (ts ++ added term_gates chain us vs c)) }
+        ensures grows { OnOk result
+            (Grows self.old.nodes self.new.nodes (sum_size (length xs.now))) }
     {
         let Some((x, xs)) = xs.split_first() else {
             return Ok(());
@@ -62,8 +70,11 @@ impl Gates {
         ys: &[NodeId],
         carry: NodeId,
     ) -> Result<NodeId, TermError>
-        ensures bit { (us vs : List PlainTerm) (c : PlainTerm) → AreBits self.old.nodes xs.now us → AreBits self.old.nodes ys.now vs → Stands self.old.nodes carry c → IfOk result (λ id. Stands self.new.nodes id (leaves_range term_gates chain us vs c)) }
-        ensures grows { OnOk result (Grows self.old.nodes self.new.nodes (overflow_size (length xs.now))) }
+        ensures bit { (us vs : List PlainTerm) (c : PlainTerm) → AreBits self.old.nodes xs.now us →
+            AreBits self.old.nodes ys.now vs → Stands self.old.nodes carry c →
+            IfOk result (λ id. Stands self.new.nodes id (leaves_range term_gates chain us vs c)) }
+        ensures grows { OnOk result
+            (Grows self.old.nodes self.new.nodes (overflow_size (length xs.now))) }
     {
         let Some((x, xs)) = xs.split_first() else {
             return Ok(self.no());

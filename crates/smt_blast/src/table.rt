@@ -1,5 +1,6 @@
 // The bits of old nodes, in the order of their places.
-ghost use Rattle.std.specs.Prelude.{◌≡◌, ◌+◌, ◌*◌, ◌≤◌, IfOk, List, OnOk, Option, Some, length, map, true};
+ghost use Rattle.std.specs.Prelude.{◌≡◌, ◌+◌, ◌*◌, ◌≤◌, IfOk, List, OnOk, Option, Some, length};
+ghost use Rattle.std.specs.Prelude.{map, true};
 ghost use Rattle.std.specs.List.{AllByRecursion};
 ghost use Rattle.law_blasting.specs.Blasted.{Variables, blasted};
 ghost use Rattle.law_blasting.specs.Laws.{root};
@@ -40,8 +41,14 @@ impl Gates {
         arguments: &[NodeId],
         table: &[IdList],
     ) -> Result<Vec<NodeId>, TermError>
-        ensures bits { (uss : List (List PlainTerm)) → Related (HasBits self.old.nodes table.now) arguments.now uss → IfOk result (λ bits. AreBits self.new.nodes bits.items (operator_circuit term_gates (operator_of circuit) uss)) }
-        ensures grows { (uss : List (List PlainTerm)) → Related (HasBits self.old.nodes table.now) arguments.now uss → OnOk result (Grows self.old.nodes self.new.nodes 2048) }
+        ensures bits { (uss : List (List PlainTerm)) →
+            Related (HasBits self.old.nodes table.now) arguments.now uss →
+            IfOk result (λ bits.
+            AreBits self.new.nodes bits.items
+            (operator_circuit term_gates (operator_of circuit) uss)) }
+        ensures grows { (uss : List (List PlainTerm)) →
+            Related (HasBits self.old.nodes table.now) arguments.now uss →
+            OnOk result (Grows self.old.nodes self.new.nodes 2048) }
     {
         match arguments {
             [] => Ok(Vec::new(self.alloc)),
@@ -64,8 +71,13 @@ impl Gates {
         arguments: &[NodeId],
         table: &[IdList],
     ) -> Result<Vec<NodeId>, TermError>
-        ensures bits { (uss : List (List PlainTerm)) → is_supported (plain_op op.now) ≡ true → Related (HasBits self.old.nodes table.now) arguments.now uss → IfOk result (λ bits. AreBits self.new.nodes bits.items (operator_circuit term_gates (plain_op op.now) uss)) }
-        ensures grows { (uss : List (List PlainTerm)) → Related (HasBits self.old.nodes table.now) arguments.now uss → OnOk result (Grows self.old.nodes self.new.nodes 2048) }
+        ensures bits { (uss : List (List PlainTerm)) → is_supported (plain_op op.now) ≡ true →
+            Related (HasBits self.old.nodes table.now) arguments.now uss →
+            IfOk result (λ bits.
+            AreBits self.new.nodes bits.items (operator_circuit term_gates (plain_op op.now) uss)) }
+        ensures grows { (uss : List (List PlainTerm)) →
+            Related (HasBits self.old.nodes table.now) arguments.now uss →
+            OnOk result (Grows self.old.nodes self.new.nodes 2048) }
     {
         match circuit_of(op) {
             Some(circuit) => self.application(circuit, arguments, table),
@@ -80,8 +92,16 @@ impl Gates {
         seen: Seen,
         table: &[IdList],
     ) -> Result<Vec<NodeId>, TermError>
-        ensures bits { (marks : List (Option Seen)) (vs : Variables) (s : IsSeen old.now marks vs seen.id seen) → IsTable old.now marks vs self.old.nodes table.now → length table.now ≡ place_of seen.id → IfOk result (λ bits. AreBits self.new.nodes bits.items (blasted vs s.term)) }
-        ensures grows { (marks : List (Option Seen)) (vs : Variables) → IsSeen old.now marks vs seen.id seen → IsTable old.now marks vs self.old.nodes table.now → length table.now ≡ place_of seen.id → OnOk result (Grows self.old.nodes self.new.nodes 2048) }
+        ensures bits { (marks : List (Option Seen)) (vs : Variables)
+            (s : IsSeen old.now marks vs seen.id seen) →
+            IsTable old.now marks vs self.old.nodes table.now →
+            length table.now ≡ place_of seen.id →
+            IfOk result (λ bits. AreBits self.new.nodes bits.items (blasted vs s.term)) }
+        ensures grows { (marks : List (Option Seen)) (vs : Variables) →
+            IsSeen old.now marks vs seen.id seen →
+            IsTable old.now marks vs self.old.nodes table.now →
+            length table.now ≡ place_of seen.id →
+            OnOk result (Grows self.old.nodes self.new.nodes 2048) }
     {
         let Some((ty, arguments)) = old.parts(seen.id).split_first() else {
             return Ok(Vec::new(self.alloc));
@@ -104,8 +124,15 @@ impl Gates {
         mark: Option<Seen>,
         table: &[IdList],
     ) -> Result<IdList, TermError>
-        ensures bits { (marks : List (Option Seen)) (vs : Variables) (seen : Seen) (s : IsSeen old.now marks vs seen.id seen) → mark ≡ Some seen → IsTable old.now marks vs self.old.nodes table.now → length table.now ≡ place_of seen.id → IfOk result (λ list. AreBits self.new.nodes (ids_of list) (blasted vs s.term)) }
-        ensures grows { (marks : List (Option Seen)) (vs : Variables) → IsTable old.now marks vs self.old.nodes table.now → IsNext old.now marks vs table.now mark → OnOk result (Grows self.old.nodes self.new.nodes 2048) }
+        ensures bits { (marks : List (Option Seen)) (vs : Variables) (seen : Seen)
+            (s : IsSeen old.now marks vs seen.id seen) → mark ≡ Some seen →
+            IsTable old.now marks vs self.old.nodes table.now →
+            length table.now ≡ place_of seen.id →
+            IfOk result (λ list. AreBits self.new.nodes (ids_of list) (blasted vs s.term)) }
+        ensures grows { (marks : List (Option Seen)) (vs : Variables) →
+            IsTable old.now marks vs self.old.nodes table.now →
+            IsNext old.now marks vs table.now mark →
+            OnOk result (Grows self.old.nodes self.new.nodes 2048) }
     {
         match mark {
             Some(seen) => {
@@ -118,8 +145,10 @@ impl Gates {
 
     /// The bits of all old nodes that were seen, by place.
     fn table(&mut self, old: &Interner, marks: &[Option<Seen>]) -> Result<Vec<IdList>, TermError>
-        ensures table { (ids : List NodeId) (vs : Variables) → HasSeen old.now marks.now ids vs → IfOk result (λ table. IsWholeTable old.now marks.now vs self.new.nodes table.items) }
-        ensures grows { (ids : List NodeId) (vs : Variables) → HasSeen old.now marks.now ids vs → OnOk result (Grows self.old.nodes self.new.nodes (2048 * length marks.now)) }
+        ensures table { (ids : List NodeId) (vs : Variables) → HasSeen old.now marks.now ids vs →
+            IfOk result (λ table. IsWholeTable old.now marks.now vs self.new.nodes table.items) }
+        ensures grows { (ids : List NodeId) (vs : Variables) → HasSeen old.now marks.now ids vs →
+            OnOk result (Grows self.old.nodes self.new.nodes (2048 * length marks.now)) }
     {
         let mut table = Vec::with_capacity(self.alloc, marks.len())?;
         for mark in marks {
@@ -131,7 +160,9 @@ impl Gates {
 
     /// The first bits of nodes, as the table has them.
     fn first_bits(&self, table: &[IdList], ids: &[NodeId]) -> Result<Vec<NodeId>, TermError>
-        ensures { (uss : List (List PlainTerm)) → Related (HasBits self.now.nodes table.now) ids.now uss → IfOk result (λ bits. AreBits self.now.nodes bits.items (map (the_bit term_gates) uss)) }
+        ensures { (uss : List (List PlainTerm)) →
+            Related (HasBits self.now.nodes table.now) ids.now uss →
+            IfOk result (λ bits. AreBits self.now.nodes bits.items (map (the_bit term_gates) uss)) }
     {
         let mut bits = Vec::with_capacity(self.alloc, ids.len())?;
         for id in ids {
@@ -148,8 +179,12 @@ impl Gates {
         marks: &[Option<Seen>],
         roots: &[NodeId],
     ) -> Result<IdList, TermError>
-        ensures roots { (ids : List NodeId) (vs : Variables) (ts : List PlainTerm) → HasSeen old.now marks.now ids vs → StandFor old.now roots.now ts → AllByRecursion (IsMarked marks.now) roots.now → IfOk result (λ list. AreBits self.new.nodes (ids_of list) (map (root vs) ts)) }
-        ensures grows { (ids : List NodeId) (vs : Variables) → HasSeen old.now marks.now ids vs → OnOk result (Grows self.old.nodes self.new.nodes (2048 * length marks.now)) }
+        ensures roots { (ids : List NodeId) (vs : Variables) (ts : List PlainTerm) →
+            HasSeen old.now marks.now ids vs → StandFor old.now roots.now ts →
+            AllByRecursion (IsMarked marks.now) roots.now →
+            IfOk result (λ list. AreBits self.new.nodes (ids_of list) (map (root vs) ts)) }
+        ensures grows { (ids : List NodeId) (vs : Variables) → HasSeen old.now marks.now ids vs →
+            OnOk result (Grows self.old.nodes self.new.nodes (2048 * length marks.now)) }
     {
         let table = self.table(old, marks)?;
         let bits = self.first_bits(table.as_slice(), roots)?;
@@ -164,8 +199,12 @@ pub(crate) fn new_nodes(
     marks: &[Option<Seen>],
     roots: &[NodeId],
 ) -> Result<(Interner, IdList), TermError>
-    ensures roots { (ids : List NodeId) (vs : Variables) (ts : List PlainTerm) → HasSeen old.now marks.now ids vs → StandFor old.now roots.now ts → AllByRecursion (IsMarked marks.now) roots.now → IfOk result (λ r. StandFor r.0 (ids_of r.1) (map (root vs) ts)) }
-    ensures few { (ids : List NodeId) (vs : Variables) → HasSeen old.now marks.now ids vs → IfOk result (λ r. length (nodes_of r.0) ≤ 3 + 2048 * length marks.now) }
+    ensures roots { (ids : List NodeId) (vs : Variables) (ts : List PlainTerm) →
+        HasSeen old.now marks.now ids vs → StandFor old.now roots.now ts →
+        AllByRecursion (IsMarked marks.now) roots.now →
+        IfOk result (λ r. StandFor r.0 (ids_of r.1) (map (root vs) ts)) }
+    ensures few { (ids : List NodeId) (vs : Variables) → HasSeen old.now marks.now ids vs →
+        IfOk result (λ r. length (nodes_of r.0) ≤ 3 + 2048 * length marks.now) }
 {
     let mut gates = Gates::new(alloc)?;
     let outcome = gates.roots(old, marks, roots);

@@ -35,7 +35,8 @@ impl BitVarList {
 
     /// Appends a variable. An `Err` changes nothing.
     pub fn push(&mut self, item: BitVar) -> Result<(), AllocError>
-        ensures ok { OnOk result (plain_bit_vars self.new ≡ plain_bit_vars self.old ++ plain_bit_var item ∷ []) }
+        ensures ok { OnOk result
+            (plain_bit_vars self.new ≡ plain_bit_vars self.old ++ plain_bit_var item ∷ []) }
         ensures err { OnErr result (plain_bit_vars self.new ≡ plain_bit_vars self.old) }
     {
         self.items.push(item)?;

@@ -1,17 +1,20 @@
 // The walk over the old terms, which numbers their variables.
-ghost use Rattle.std.specs.Prelude.{ℕ, ◌≡◌, ◌<◌, [], ◌∷◌, IfOk, IsTrue, List, None, Some, length, map, replicate, slice_set};
+ghost use Rattle.std.specs.Prelude.{ℕ, ◌≡◌, ◌<◌, [], ◌∷◌, IfOk, IsTrue, List, None, Some, length};
+ghost use Rattle.std.specs.Prelude.{map, replicate, slice_set};
 ghost use Rattle.std.specs.List.{AllByRecursion};
 ghost use Rattle.law_blasting.specs.Blasted.{Variables};
 ghost use Rattle.law_blasting.specs.Numbering.{walked, walked_all};
 ghost use Rattle.law_terms.specs.Meanings.{all_found, meanings};
 ghost use Rattle.law_terms.specs.Nodes.{FunctionMeaning, TermMeaning, TypeMeaning};
-ghost use Rattle.law_terms.specs.Plain.{PlainFunction, PlainTerm, PlainTerms, PlainType, UufOp, list_of_terms};
+ghost use Rattle.law_terms.specs.Plain.{PlainFunction, PlainTerm, PlainTerms, PlainType, UufOp};
+ghost use Rattle.law_terms.specs.Plain.{list_of_terms};
 ghost use Rattle.law_terms.specs.Typing.{typed, typed_all};
 ghost use Rattle.smt_blast.specs.Marks.{mark_in};
-ghost use Rattle.smt_nodes.specs.Interned.{meaning_in, nodes_of};
+ghost use Rattle.smt_nodes.specs.Interned.{IsNumber, meaning_in, nodes_of};
 ghost use Rattle.smt_nodes.specs.View.{place_of, places_of};
-ghost use Rattle.smt_term.specs.View.{plain_op, plain_type};
+ghost use Rattle.smt_term.specs.View.{plain_op};
 ghost use Rattle.std.specs.Option.{is_some};
+ghost use Rattle.smt_term.specs.TypeView.{BuildsType};
 
 use crate::circuit::circuit_of;
 use crate::error::BlastError;
@@ -33,7 +36,7 @@ pub(crate) struct Walk {
 
 /// The type for which a number stands, made again. A number that stands for none gets the answer of no memory.
 pub(crate) fn made_type(old: &Interner, ty: NodeId) -> Result<TermType, TermError>
-    ensures { (t : PlainType) → meaning_in old.now ty ≡ Some (TypeMeaning t) → IfOk result (λ made. plain_type made ≡ t) }
+    ensures { (t : PlainType) → meaning_in old.now ty ≡ Some (TypeMeaning t) → BuildsType result t }
 {
     match old.label(ty) {
         Some(label) if label.is_type() => old.type_at(ty),
@@ -43,7 +46,8 @@ pub(crate) fn made_type(old: &Interner, ty: NodeId) -> Result<TermType, TermErro
 
 /// The function for which a number stands, as an operator. A number that stands for none gets the answer of no memory.
 fn made_function(alloc: Global, old: &Interner, id: NodeId) -> Result<Op, TermError>
-    ensures { (f : PlainFunction) → meaning_in old.now id ≡ Some (FunctionMeaning f) → IfOk result (λ op. plain_op op ≡ UufOp f) }
+    ensures { (f : PlainFunction) → meaning_in old.now id ≡ Some (FunctionMeaning f) →
+        IfOk result (λ op. plain_op op ≡ UufOp f) }
 {
     let Some(Label::Fun(name)) = old.label(id) else {
         return Err(TermError::Memory);
@@ -91,7 +95,9 @@ impl Walk {
 
     /// Gives a node a mark.
     fn mark(&mut self, id: NodeId, number: usize)
-        ensures marks { self.new.marks.items ≡ slice_set self.old.marks.items (place_of id) (Some (record { id = id; number = number })) }
+        ensures marks { self.new.marks.items
+            ≡ slice_set self.old.marks.items (place_of id)
+            (Some (record { id = id; number = number })) }
         ensures variables { self.new.variables.items ≡ self.old.variables.items }
     {
         if id.place() < self.marks.len() {
@@ -102,7 +108,9 @@ impl Walk {
     /// Walks over the term of a number: over its type, then its parts, and then itself.
     #[cycle(walk)]
     pub(crate) fn visit(&mut self, old: &Interner, id: NodeId) -> Result<(), BlastError>
-        ensures { (t : PlainTerm) (vs : Variables) → meaning_in old.now id ≡ Some (TermMeaning t) → IsTrue (typed t) → IsWalk old.now self.old vs → Walks old.now self.old self.new (walked vs t) (id ∷ []) result }
+        ensures { (t : PlainTerm) (vs : Variables) → IsNumber old.now id t → IsTrue (typed t) →
+            IsWalk old.now self.old vs →
+            Walks old.now self.old self.new (walked vs t) (id ∷ []) result }
     {
         if self.is_seen(id) {
             Ok(())
@@ -114,7 +122,10 @@ impl Walk {
     /// The same for a node without a mark.
     #[cycle(walk)]
     fn visit_new(&mut self, old: &Interner, id: NodeId) -> Result<(), BlastError>
-        ensures { (t : PlainTerm) (vs : Variables) → mark_in self.old.marks.items (place_of id) ≡ None → meaning_in old.now id ≡ Some (TermMeaning t) → IsTrue (typed t) → IsWalk old.now self.old vs → Walks old.now self.old self.new (walked vs t) (id ∷ []) result }
+        ensures { (t : PlainTerm) (vs : Variables) →
+            mark_in self.old.marks.items (place_of id) ≡ None → IsNumber old.now id t →
+            IsTrue (typed t) → IsWalk old.now self.old vs →
+            Walks old.now self.old self.new (walked vs t) (id ∷ []) result }
     {
         let Some((ty, parts)) = old.parts(id).split_first() else {
             return Err(BlastError::Memory);
@@ -157,7 +168,11 @@ impl Walk {
         before: usize,
     ) -> Result<(), BlastError>
         requires { AllByRecursion (λ place. place < before) (places_of ids.now) }
-        ensures { (ts : PlainTerms) (vs : Variables) → all_found (meanings (nodes_of old.now)) (places_of ids.now) ≡ Some (map TermMeaning (list_of_terms ts)) → IsTrue (typed_all ts) → IsWalk old.now self.old vs → Walks old.now self.old self.new (walked_all vs ts) ids.now result }
+        ensures { (ts : PlainTerms) (vs : Variables) →
+            all_found (meanings (nodes_of old.now)) (places_of ids.now) ≡ Some
+            (map TermMeaning (list_of_terms ts)) → IsTrue (typed_all ts) →
+            IsWalk old.now self.old vs →
+            Walks old.now self.old self.new (walked_all vs ts) ids.now result }
     {
         for id in ids {
             self.visit(old, *id)?;
@@ -174,7 +189,11 @@ impl Walk {
         before: usize,
     ) -> Result<(), BlastError>
         requires { AllByRecursion (λ place. place < before) (places_of parts.now) }
-        ensures { (f : PlainFunction) (ts : PlainTerms) (vs : Variables) → all_found (meanings (nodes_of old.now)) (places_of parts.now) ≡ Some (FunctionMeaning f ∷ map TermMeaning (list_of_terms ts)) → IsTrue (typed_all ts) → IsWalk old.now self.old vs → Walks old.now self.old self.new (behind_parts (UufOp f) (walked_all vs ts)) [] result }
+        ensures { (f : PlainFunction) (ts : PlainTerms) (vs : Variables) →
+            all_found (meanings (nodes_of old.now)) (places_of parts.now) ≡ Some
+            (FunctionMeaning f ∷ map TermMeaning (list_of_terms ts)) → IsTrue (typed_all ts) →
+            IsWalk old.now self.old vs →
+            Walks old.now self.old self.new (behind_parts (UufOp f) (walked_all vs ts)) [] result }
     {
         let Some((function, arguments)) = parts.split_first() else {
             return Err(BlastError::Memory);

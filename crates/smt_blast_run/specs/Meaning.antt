@@ -36,6 +36,10 @@ pub record MeansBlasted (enums : Enums) (ts : List PlainTerm) : Type 0 where
   pub faithful : AreFaithful enums ts
   pub means : Headline [] (blasted_names ts) (new_roots ts) (blasted_text ts)
   -- the carried bits of an interpretation of the old terms are one of the script, and a model exactly where it makes the old terms true
-  pub forth : (I : Interpretation) → IsInterpretation enums ts I → IsScriptInterpretation (carried_bits ts I) means.state × (AreTrue I ts ↔ IsModel (carried_bits ts I) means.state)
-  -- each interpretation of the script is, for its names, the carried bits of one of the old terms, and a model exactly where that makes these true
-  pub back : (J : ScriptInterpretation) → IsScriptInterpretation J means.state → IsInterpretation enums ts (interpretation_of_bits ts J) × AgreeFor (carried_bits ts (interpretation_of_bits ts J)) J means.state × (IsModel J means.state ↔ AreTrue (interpretation_of_bits ts J) ts)
+  pub forth : (I : Interpretation) → IsInterpretation enums ts I →
+      IsScriptInterpretation (carried_bits ts I) means.state × (AreTrue I ts ↔ IsModel (carried_bits ts I) means.state)
+  -- each interpretation of the script is, for its names, the carried bits of one of the old terms, and a model exactly where that makes
+  -- these true
+  pub back : (J : ScriptInterpretation) → IsScriptInterpretation J means.state →
+      IsInterpretation enums ts (interpretation_of_bits ts J) × AgreeFor (carried_bits ts (interpretation_of_bits ts J)) J means.state
+      × (IsModel J means.state ↔ AreTrue (interpretation_of_bits ts J) ts)

@@ -40,7 +40,8 @@ pub record Prints (old new : Option (List ℕ)) (bytes : List ℕ) : Type 0 wher
   pub taken : refusal_in job ≡ None
   pub printed : new ≡ append_known old (blasted_text (current_terms job))
   pub means : MeansBlasted job.enums (current_terms job)
-  pub true_as_written : (I : Interpretation) → IsInterpretation job.enums (current job.steps) I → AreTrue I (current job.steps) ↔ IsModel (carried_bits (current_terms job) I) means.means.state
+  pub true_as_written : (I : Interpretation) → IsInterpretation job.enums (current job.steps) I →
+      AreTrue I (current job.steps) ↔ IsModel (carried_bits (current_terms job) I) means.means.state
 
 -- What was asked for is done.
 abbrev pub IsDone : (before after : Around) → Option Command → Type 0
@@ -54,7 +55,10 @@ IsDone before after None = ⊥
 -- But for want of memory, and where nothing failed, the script of a job whose terms have no refusal is printed, a job with one is refused
 -- by it, what is no job is refused as such, and the text of a word is printed.
 pub record IsComplete (command : Option Command) (before after : Around) (status : ℕ) : Type 0 where
-  pub accepted : command ≡ Some Blast → ¬ SourceFailed before after → ¬ SinkFailed before after → IfSome before.left (λ bytes. IsTakenJob bytes → (status ≡ 0) ⊎ (status ≡ 7))
-  pub unblasted : command ≡ Some Blast → ¬ SourceFailed before after → IfSome before.left (λ bytes. IsUntakenJob bytes → (status ≡ 10) ⊎ (status ≡ 7))
-  pub rejected : command ≡ Some Blast → ¬ SourceFailed before after → IfSome before.left (λ bytes. IsNoJob bytes → (status ≡ 3) ⊎ (status ≡ 7))
+  pub accepted : command ≡ Some Blast → ¬ SourceFailed before after → ¬ SinkFailed before after →
+      IfSome before.left (λ bytes. IsTakenJob bytes → (status ≡ 0) ⊎ (status ≡ 7))
+  pub unblasted : command ≡ Some Blast → ¬ SourceFailed before after →
+      IfSome before.left (λ bytes. IsUntakenJob bytes → (status ≡ 10) ⊎ (status ≡ 7))
+  pub rejected : command ≡ Some Blast → ¬ SourceFailed before after →
+      IfSome before.left (λ bytes. IsNoJob bytes → (status ≡ 3) ⊎ (status ≡ 7))
   pub printed : (command ≡ Some Help) ⊎ (command ≡ Some Version) → ¬ SinkFailed before after → (status ≡ 0) ⊎ (status ≡ 7)

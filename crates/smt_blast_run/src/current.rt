@@ -21,7 +21,8 @@ pub(crate) struct Current {
 impl Current {
     /// What is current behind no steps.
     fn new(alloc: Global) -> Current
-        ensures { (nodes : Interner) (steps : List PlainStep) → LeadsTo nodes result steps (current steps) }
+        ensures { (nodes : Interner) (steps : List PlainStep) →
+            LeadsTo nodes result steps (current steps) }
     {
         Current {
             ids: Vec::new(alloc),
@@ -31,7 +32,10 @@ impl Current {
 
     /// What is current behind one more step.
     fn take(&mut self, step: &NumberedStep) -> Result<(), AllocError>
-        ensures { (nodes : Interner) (rest : List PlainStep) (ts : List PlainTerm) → IsTrue (step_stands nodes step.now) → LeadsTo nodes self.old (step_by nodes step.now ∷ rest) ts → OnOk result (LeadsTo nodes self.new rest ts) }
+        ensures { (nodes : Interner) (rest : List PlainStep) (ts : List PlainTerm) →
+            IsTrue (step_stands nodes step.now) →
+            LeadsTo nodes self.old (step_by nodes step.now ∷ rest) ts →
+            OnOk result (LeadsTo nodes self.new rest ts) }
     {
         match step {
             NumberedStep::Assert(ids) => self.ids.extend_from_slice(ids.as_slice())?,
@@ -49,7 +53,8 @@ impl Current {
 
 /// The numbers of the terms that are current behind all steps, in order.
 pub(crate) fn current_ids(alloc: Global, steps: &[NumberedStep]) -> Result<Vec<NodeId>, AllocError>
-    ensures { (nodes : Interner) → IsTrue (all_steps_stand nodes steps.now) → IfOk result (λ ids. StandFor nodes ids.items (current (steps_by nodes steps.now))) }
+    ensures { (nodes : Interner) → IsTrue (all_steps_stand nodes steps.now) →
+        IfOk result (λ ids. StandFor nodes ids.items (current (steps_by nodes steps.now))) }
 {
     let mut current = Current::new(alloc);
     for step in steps {

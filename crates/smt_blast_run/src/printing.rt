@@ -31,8 +31,11 @@ fn encode_roots<L: Ledger, W: Sink>(
     requires parts { blank.parts ≡ L.parts }
     requires some { 0 < blank.parts }
     requires stand { (ts : List PlainTerm) × StandFor blasted.nodes (ids_of blasted.roots) ts }
-    ensures puts { (ts : List PlainTerm) → StandFor blasted.nodes (ids_of blasted.roots) ts → OnOk result (W.contents out.new ≡ append_known (W.contents out.old) (text [] ts)) }
-    ensures refused { (ts : List PlainTerm) → StandFor blasted.nodes (ids_of blasted.roots) ts → first_fault [] ts ≡ None → IfErr result (HasEncodeCause (Rose (W.faults out.old) (W.faults out.new))) }
+    ensures puts { (ts : List PlainTerm) → StandFor blasted.nodes (ids_of blasted.roots) ts →
+        OnOk result (W.contents out.new ≡ append_known (W.contents out.old) (text [] ts)) }
+    ensures refused { (ts : List PlainTerm) → StandFor blasted.nodes (ids_of blasted.roots) ts →
+        first_fault [] ts ≡ None →
+        IfErr result (HasEncodeCause (Rose (W.faults out.old) (W.faults out.new))) }
     ensures later { W.faults out.old ≤ W.faults out.new }
 {
     let mut blasted = blasted;
@@ -51,8 +54,10 @@ pub(crate) fn put_blasted<W: Sink>(
     blasted: Blasted,
     out: &mut W,
 ) -> Result<(), Refusal>
-    requires stand { (ts : List PlainTerm) × StandFor blasted.nodes (ids_of blasted.roots) ts × (first_fault [] ts ≡ None) }
-    ensures puts { (ts : List PlainTerm) → StandFor blasted.nodes (ids_of blasted.roots) ts → OnOk result (W.contents out.new ≡ append_known (W.contents out.old) (text [] ts)) }
+    requires stand { (ts : List PlainTerm) × StandFor blasted.nodes (ids_of blasted.roots) ts
+        × (first_fault [] ts ≡ None) }
+    ensures puts { (ts : List PlainTerm) → StandFor blasted.nodes (ids_of blasted.roots) ts →
+        OnOk result (W.contents out.new ≡ append_known (W.contents out.old) (text [] ts)) }
     ensures refused { IfErr result (HasPutCause (Rose (W.faults out.old) (W.faults out.new))) }
     ensures later { W.faults out.old ≤ W.faults out.new }
 {

@@ -22,8 +22,14 @@ fn put_answer<R: Source, W: Sink>(
     source: &mut R,
     out: &mut W,
 ) -> Result<(), Refusal>
-    ensures done { OnOk result (IsDone (around R.remaining R.faults W.contents W.faults source.old out.old) (around R.remaining R.faults W.contents W.faults source.new out.new) (commanded (texts words.now))) }
-    ensures refused { IfErr result (HasCause (around R.remaining R.faults W.contents W.faults source.old out.old) (around R.remaining R.faults W.contents W.faults source.new out.new) (commanded (texts words.now))) }
+    ensures done { OnOk result (IsDone
+        (around R.remaining R.faults W.contents W.faults source.old out.old)
+        (around R.remaining R.faults W.contents W.faults source.new out.new)
+        (commanded (texts words.now))) }
+    ensures refused { IfErr result (HasCause
+        (around R.remaining R.faults W.contents W.faults source.old out.old)
+        (around R.remaining R.faults W.contents W.faults source.new out.new)
+        (commanded (texts words.now))) }
     ensures untouched { IfErr result (LeavesOutput (W.contents out.old) (W.contents out.new)) }
     ensures unread { commanded (texts words.now) ≢ Some Command.Blast → source.new ≡ source.old }
     ensures later { W.faults out.old ≤ W.faults out.new }
@@ -47,8 +53,14 @@ fn answer<R: Source, W: Sink>(
     source: &mut R,
     out: &mut W,
 ) -> Result<(), Refusal>
-    ensures done { OnOk result (IsDone (around R.remaining R.faults W.contents W.faults source.old out.old) (around R.remaining R.faults W.contents W.faults source.new out.new) (commanded (texts words.now))) }
-    ensures refused { IfErr result (HasCause (around R.remaining R.faults W.contents W.faults source.old out.old) (around R.remaining R.faults W.contents W.faults source.new out.new) (commanded (texts words.now))) }
+    ensures done { OnOk result (IsDone
+        (around R.remaining R.faults W.contents W.faults source.old out.old)
+        (around R.remaining R.faults W.contents W.faults source.new out.new)
+        (commanded (texts words.now))) }
+    ensures refused { IfErr result (HasCause
+        (around R.remaining R.faults W.contents W.faults source.old out.old)
+        (around R.remaining R.faults W.contents W.faults source.new out.new)
+        (commanded (texts words.now))) }
     ensures untouched { IfErr result (LeavesOutput (W.contents out.old) (W.contents out.new)) }
     ensures unread { commanded (texts words.now) ≢ Some Command.Blast → source.new ≡ source.old }
 {
@@ -93,11 +105,21 @@ pub fn blast_run<R: Source, W: Sink, D: Sink>(
     out: &mut W,
     diag: &mut D,
 ) -> u8
-    ensures done { result ≡ 0 → IsDone (around R.remaining R.faults W.contents W.faults source.old out.old) (around R.remaining R.faults W.contents W.faults source.new out.new) (commanded (texts words.now)) }
+    ensures done { result ≡ 0 →
+        IsDone (around R.remaining R.faults W.contents W.faults source.old out.old)
+        (around R.remaining R.faults W.contents W.faults source.new out.new)
+        (commanded (texts words.now)) }
     ensures usage { result ≡ 2 ↔ (commanded (texts words.now) ≡ None) }
-    ensures complete { IsComplete (commanded (texts words.now)) (around R.remaining R.faults W.contents W.faults source.old out.old) (around R.remaining R.faults W.contents W.faults source.new out.new) result }
+    ensures complete { IsComplete (commanded (texts words.now))
+        (around R.remaining R.faults W.contents W.faults source.old out.old)
+        (around R.remaining R.faults W.contents W.faults source.new out.new) result }
     ensures unread { commanded (texts words.now) ≢ Some Command.Blast → source.new ≡ source.old }
-    ensures report { Reports status_of line_of (HasCause (around R.remaining R.faults W.contents W.faults source.old out.old) (around R.remaining R.faults W.contents W.faults source.new out.new) (commanded (texts words.now))) (LeavesOutput (W.contents out.old) (W.contents out.new)) D.contents D.faults D.has_room D.place diag.old diag.new result }
+    ensures report { Reports status_of line_of
+        (HasCause (around R.remaining R.faults W.contents W.faults source.old out.old)
+        (around R.remaining R.faults W.contents W.faults source.new out.new)
+        (commanded (texts words.now)))
+        (LeavesOutput (W.contents out.old) (W.contents out.new)) D.contents D.faults D.has_room
+        D.place diag.old diag.new result }
 {
     match answer(alloc, words, source, out) {
         Ok(()) => 0,

@@ -15,8 +15,10 @@ use std::alloc::Global;
 /// Reads a job, and blasts the terms that are current at its end.
 pub(crate) fn blast_job<R: Source>(alloc: Global, source: &mut R) -> Result<Blasted, Refusal>
     ensures blasted { IfOk result (IsBlastedOf (R.remaining source.old)) }
-    ensures ended { OnOk result (R.remaining source.new ≡ option_map (λ _. []) (R.remaining source.old)) }
-    ensures refused { IfErr result (HasReadingCause (R.remaining source.old) (Rose (R.faults source.old) (R.faults source.new))) }
+    ensures ended { OnOk result
+        (R.remaining source.new ≡ option_map (λ _. []) (R.remaining source.old)) }
+    ensures refused { IfErr result (HasReadingCause (R.remaining source.old)
+        (Rose (R.faults source.old) (R.faults source.new))) }
 {
     let job = read_source(alloc, source)?;
     let NumberedJob { steps, .. } = job;

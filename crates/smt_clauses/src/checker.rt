@@ -24,7 +24,8 @@ pub(crate) struct Checker {
 }
 
 impl Checker {
-    ghost use Rattle.smt_clauses.specs.Allowed.{Allows, Implies, Keeps, KeepsReady, KeepsReadyWith, KeepsWith};
+    ghost use Rattle.smt_clauses.specs.Allowed.{Allows, Implies, Keeps, KeepsReady, KeepsReadyWith};
+    ghost use Rattle.smt_clauses.specs.Allowed.{KeepsWith};
 
     /// No clause, over so many literals.
     pub(crate) fn new(alloc: Global, literals: usize) -> Result<Checker, AllocError>

@@ -1,5 +1,6 @@
 // Clauses, one behind the other.
-ghost use Rattle.std.specs.Prelude.{◌≡◌, ◌↔◌, ◌≤◌, ◌++◌, ◌∷◌, [], length, option_copied, slice_get, IsTrue, OnErr, OnOk};
+ghost use Rattle.std.specs.Prelude.{◌≡◌, ◌↔◌, ◌≤◌, ◌++◌, ◌∷◌, [], length, option_copied, slice_get};
+ghost use Rattle.std.specs.Prelude.{IsTrue, OnErr, OnOk};
 ghost use Rattle.smt_clauses.specs.Spans.{AreWithin, clauses_of};
 ghost use Rattle.smt_clauses.specs.Variables.{AreBelow, count_in, count_of};
 

@@ -26,8 +26,6 @@ mod proof;
 mod propagation;
 mod refutation;
 mod scan;
-#[cfg(test)]
-mod tests;
 mod watches;
 
 pub use assumption::assume;

@@ -1,5 +1,6 @@
 // Which literals are taken to be true.
-ghost use Rattle.std.specs.Prelude.{◌≡◌, ◌<◌, ◌≤◌, ◌↔◌, ◌⊎◌, ℕ, IfOk, IsTrue, slice_index, vec_len, false};
+ghost use Rattle.std.specs.Prelude.{◌≡◌, ◌<◌, ◌≤◌, ◌↔◌, ◌⊎◌, ℕ, IfOk, IsTrue, slice_index, vec_len};
+ghost use Rattle.std.specs.Prelude.{false};
 ghost use Rattle.smt_clauses.specs.Stamps.{AreTakenBack, IsStamp, kept_stamp};
 
 use crate::literal::Literal;
@@ -38,7 +39,8 @@ pub struct Marks {
 }
 
 impl Marks {
-    ghost use Rattle.smt_clauses.specs.Marked.{AddsMark, IsKept, IsMarked, KeepsMarks, KeepsNoMore, width_of};
+    ghost use Rattle.smt_clauses.specs.Marked.{AddsMark, IsKept, IsMarked, KeepsMarks, KeepsNoMore};
+    ghost use Rattle.smt_clauses.specs.Marked.{width_of};
 
     /// No literal is marked, of so many. A greater one never is.
     pub fn new(alloc: Global, literals: usize) -> Result<Marks, AllocError>

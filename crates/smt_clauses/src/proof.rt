@@ -1,5 +1,6 @@
 // The steps of a proof.
-ghost use Rattle.std.specs.Prelude.{◌≡◌, ◌++◌, ◌∷◌, [], ◌↔◌, IsTrue, length, slice_get, OnErr, OnOk, false, true};
+ghost use Rattle.std.specs.Prelude.{◌≡◌, ◌++◌, ◌∷◌, [], ◌↔◌, IsTrue, length, slice_get, OnErr};
+ghost use Rattle.std.specs.Prelude.{OnOk, false, true};
 ghost use Rattle.smt_clauses.specs.View.{plain_clauses};
 
 use crate::clause_list::ClauseList;

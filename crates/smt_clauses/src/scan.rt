@@ -2,8 +2,10 @@
 ghost use Rattle.std.specs.Prelude.{◌≡◌, ◌↔◌, IfNone, IfSome, IsTrue, false};
 ghost use Rattle.law_clauses.specs.Clauses.{negated};
 ghost use Rattle.smt_clauses.specs.Loops.{Follows, IsRuledOut};
-ghost use Rattle.smt_clauses.specs.Marked.{AddsMark, AllAreOut, IsFree, IsMarked, IsOut, KeepsNoMore};
-ghost use Rattle.smt_clauses.specs.Settled.{IsConflict, IsFalsified, IsGivenAt, IsGivenBy, IsGivenLast, MarksFollow};
+ghost use Rattle.smt_clauses.specs.Marked.{AddsMark, AllAreOut, IsFree, IsMarked, IsOut};
+ghost use Rattle.smt_clauses.specs.Marked.{KeepsNoMore};
+ghost use Rattle.smt_clauses.specs.Settled.{IsConflict, IsFalsified, IsGivenAt, IsGivenBy};
+ghost use Rattle.smt_clauses.specs.Settled.{IsGivenLast, MarksFollow};
 ghost use Rattle.smt_clauses.specs.View.{plain_clauses};
 
 use crate::clause_list::ClauseList;

@@ -13,7 +13,7 @@ use Rattle.law_jobs.specs.Steps.{Section, asserted}
 use Rattle.law_jobs.proofs.Steps.{asserted_built}
 use Rattle.law_job_scripts.specs.JobTexts.{text_of_job}
 use Rattle.law_job_scripts.proofs.Meaning.{jobs_are_writable, writable_steps_mean}
-use Rattle.smt_job_declarations.proofs.Shapes.{other_text}
+use Rattle.law_texts.proofs.SameTexts.{other_text}
 use Rattle.smt_runs.specs.Jobs.{HasFaultOf, HasPrintCause, IsAJob, IsFaultOf}
 use Rattle.smt_runs.specs.Pieces.{PutsSteps}
 use Rattle.smt_runs.specs.declared.refusal.EncodeRefusal.{EncodeRefusal}

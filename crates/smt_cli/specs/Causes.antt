@@ -26,7 +26,8 @@ pub record Around (L : Type 0) : Type 0 where
   pub starter : StarterState L
 
 -- what a run stands on, by what is said of its source, its sink and its starter
-abbrev pub around : {R W P L : Type 0} → (R → Option (List ℕ)) → (R → ℕ) → (W → Option (List ℕ)) → (W → ℕ) → (P → StarterState L) → R → W → P → Around L
+abbrev pub around : {R W P L : Type 0} → (R → Option (List ℕ)) → (R → ℕ) → (W → Option (List ℕ)) → (W → ℕ) → (P → StarterState L) → R → W →
+    P → Around L
 around remaining source_faults contents sink_faults state source out starter = record {
   left = remaining source;
   source_faults = source_faults source;
@@ -45,7 +46,8 @@ before_check (PopStep ∷ steps) = PopStep ∷ before_check steps
 
 -- a job has these bytes, and what is built of its steps before the first check has a fault
 abbrev pub IsFaultyAtFirst : List ℕ → Type 0
-IsFaultyAtFirst bytes = (job : PlainJob) × IsJob bytes job × IsTrue (is_some (first_fault job.enums (map built (asserted (before_check job.steps)))))
+IsFaultyAtFirst bytes =
+    (job : PlainJob) × IsJob bytes job × IsTrue (is_some (first_fault job.enums (map built (asserted (before_check job.steps)))))
 
 -- ---- puts: `failed` is the fact that a count of faults rose
 
@@ -83,23 +85,33 @@ module _ {L : Type 0} where
 
   -- A job has these bytes, and this is why a solver was not asked by all its steps, as they are built. A job with a section `terms` has
   -- one check, behind its terms.
-  abbrev pub IsStopped : (state : L → LinkState) → (allows : List ℕ → List ℕ → List ℕ → Type 0) → SolverCall → (before after : Around L) → CheckRefusal → List ℕ → Type 0
+  abbrev pub IsStopped : (state : L → LinkState) → (allows : List ℕ → List ℕ → List ℕ → Type 0) → SolverCall → (before after : Around L) →
+      CheckRefusal → List ℕ → Type 0
   IsStopped state allows call before after why bytes =
-      (job : PlainJob) × (is : IsJob bytes job) × WhyNotAsked state allows before.starter after.starter call job.enums (built_steps (checked_steps is.section job.steps)) before.held after.held (SinkFailed before after) why
+      (job : PlainJob) × (is : IsJob bytes job)
+      × WhyNotAsked state allows before.starter after.starter call job.enums (built_steps (checked_steps is.section job.steps))
+      before.held after.held (SinkFailed before after) why
 
   -- why `check` was refused
-  abbrev pub HasCheckCause : (state : L → LinkState) → (allows : List ℕ → List ℕ → List ℕ → Type 0) → SolverCall → (before after : Around L) → Refusal → Type 0
+  abbrev pub HasCheckCause : (state : L → LinkState) → (allows : List ℕ → List ℕ → List ℕ → Type 0) → SolverCall →
+      (before after : Around L) → Refusal → Type 0
   HasCheckCause state allows call before after Usage = ⊥
   HasCheckCause state allows call before after (Job kind) = IfSome before.left (IsRefusedAs kind)
-  HasCheckCause state allows call before after (Encode kind) = IfSome before.left (IsStopped state allows call before after (check.Encode kind))
+  HasCheckCause state allows call before after (Encode kind) =
+      IfSome before.left (IsStopped state allows call before after (check.Encode kind))
   HasCheckCause state allows call before after Source = SourceFailed before after
-  HasCheckCause state allows call before after Sink = SinkFailed before after × IfSome before.left (IsStopped state allows call before after check.Sink)
-  HasCheckCause state allows call before after Start = StartFailed before after × IfSome before.left (IsStopped state allows call before after check.Start)
-  HasCheckCause state allows call before after (Session kind) = IfSome before.left (IsStopped state allows call before after (check.Session kind))
-  HasCheckCause state allows call before after Memory = IfSome before.left (λ bytes. BreaksOff state allows before.starter after.starter call before.held after.held)
+  HasCheckCause state allows call before after Sink =
+      SinkFailed before after × IfSome before.left (IsStopped state allows call before after check.Sink)
+  HasCheckCause state allows call before after Start =
+      StartFailed before after × IfSome before.left (IsStopped state allows call before after check.Start)
+  HasCheckCause state allows call before after (Session kind) =
+      IfSome before.left (IsStopped state allows call before after (check.Session kind))
+  HasCheckCause state allows call before after Memory =
+      IfSome before.left (λ bytes. BreaksOff state allows before.starter after.starter call before.held after.held)
 
   -- why what was asked for was refused
-  abbrev pub HasCause : (state : L → LinkState) → (allows : List ℕ → List ℕ → List ℕ → Type 0) → Option Command → SolverCall → (before after : Around L) → Refusal → Type 0
+  abbrev pub HasCause : (state : L → LinkState) → (allows : List ℕ → List ℕ → List ℕ → Type 0) → Option Command → SolverCall →
+      (before after : Around L) → Refusal → Type 0
   HasCause state allows (Some Script) call before after refusal = HasScriptCause before after refusal
   HasCause state allows (Some Check) call before after refusal = HasCheckCause state allows call before after refusal
   HasCause state allows (Some Generate) call before after refusal = HasPutCause (SinkFailed before after) refusal

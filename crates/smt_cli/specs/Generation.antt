@@ -1,5 +1,6 @@
 -- The summary of a job's script.
-use Rattle.std.specs.Prelude.{ℕ, ◌-◌, ◌^◌, ◌%◌, ◌≡◌, Bool, codes, count_by, decimal, is_some, length, min, sum, List, ◌++◌, Option, Some, None}
+use Rattle.std.specs.Prelude.{ℕ, ◌-◌, ◌^◌, ◌%◌, ◌≡◌, Bool, codes, count_by, decimal, is_some, length, min, sum, List, ◌++◌, Option, Some}
+use Rattle.std.specs.Prelude.{None}
 use Rattle.std.specs.Io.KnownBytes.{append_known}
 use Rattle.law_terms.specs.Plain.{PlainType, VariableTerm}
 use Rattle.law_lines.specs.NameTables.{Tables, name_of_term}

@@ -4,7 +4,8 @@ use Rattle.smt_script.specs.declared.sink.SinkError.{SinkError}
 use Rattle.smt_script.specs.declared.sink.SinkError.TheVariants.{Fault as SinkFault, Memory as SinkWant}
 use Rattle.smt_runs.specs.Refusal.{encode_line, job_line}
 use Rattle.smt_runs.specs.declared.refusal.CheckRefusal.{CheckRefusal}
-use Rattle.smt_runs.specs.declared.refusal.CheckRefusal.TheVariants.{Encode as CheckEncode, Sink as CheckSink, Start as CheckStart, Session as CheckSession, Memory as CheckWant}
+use Rattle.smt_runs.specs.declared.refusal.CheckRefusal.TheVariants.{Encode as CheckEncode, Sink as CheckSink, Start as CheckStart}
+use Rattle.smt_runs.specs.declared.refusal.CheckRefusal.TheVariants.{Session as CheckSession, Memory as CheckWant}
 use Rattle.smt_runs.specs.declared.refusal.PrintRefusal.{PrintRefusal}
 use Rattle.smt_runs.specs.declared.refusal.PrintRefusal.TheVariants.{Encode as PrintEncode, Sink as PrintSink, Memory as PrintWant}
 use Rattle.smt_runs.specs.declared.refusal.ReadRefusal.{ReadRefusal}

@@ -7,7 +7,8 @@ use Rattle.law_verdicts.specs.Dialogues.{sent_for}
 use Rattle.law_verdicts.specs.Honesty.{IsHonest}
 use Rattle.law_jobs.specs.Jobs.{IsJob, PlainJob, fault_of}
 use Rattle.law_jobs.specs.Steps.{PlainStep, built_steps, checked_steps}
-use Rattle.law_job_scripts.specs.Asked.{AreBelieved, IsTold}
+use Rattle.law_job_scripts.specs.Asked.{AreBelieved}
+use Rattle.law_verdicts.specs.Idle.{TellsAll}
 use Rattle.law_job_scripts.specs.JobTexts.{text_of_job}
 use Rattle.law_job_scripts.specs.Meaning.{MeansSteps}
 use Rattle.smt_runs.specs.Asking.{AsksSolver}
@@ -38,27 +39,31 @@ pub record Prints (old new : Option (List ℕ)) (bytes : List ℕ) : Type 0 wher
 abbrev pub steps_to_check : (bytes : List ℕ) (job : PlainJob) → IsJob bytes job → List PlainStep
 steps_to_check bytes job is = checked_steps is.section job.steps
 
-module _ {L : Type 0} (state : L → LinkState) (allows : List ℕ → List ℕ → List ℕ → Type 0) (call : SolverCall) (before after : Around L) where
-  -- The bytes are a job. A solver was started by the command and asked by the steps of the job, as they are built: it was sent
-  -- `(set-logic ALL)` and the text of these steps, its link came back, and for each check the word of the one line that it gave was put,
-  -- in order. Where the starter is honest, each `unsat` says that no interpretation makes all terms true, as they are written, that are
-  -- current at its check.
-  pub record Checks (bytes : List ℕ) : Type 0 where
-    pub job : PlainJob
-    pub is_job : IsJob bytes job
-    pub faultless : fault_of job ≡ None
-    pub asks : AsksSolver state allows before.starter after.starter call job.enums (built_steps (steps_to_check bytes job is_job)) before.held after.held
-    pub sent : sent_for asks.checks ++ asks.rest ≡ text_of_job job.enums (built_steps (steps_to_check bytes job is_job))
-    pub believed : IsTold (state asks.returns.link) → IsHonest allows → AreBelieved job.enums (steps_to_check bytes job is_job) asks.checks
+module _ {L : Type 0} (state : L → LinkState) (allows : List ℕ → List ℕ → List ℕ → Type 0) (call : SolverCall) (before after : Around L)
+  where
+    -- The bytes are a job. A solver was started by the command and asked by the steps of the job, as they are built: it was sent
+    -- `(set-logic ALL)` and the text of these steps, its link came back, and for each check the word of the one line that it gave was put,
+    -- in order. Where the starter is honest, each `unsat` says that no interpretation makes all terms true, as they are written, that are
+    -- current at its check.
+    pub record Checks (bytes : List ℕ) : Type 0 where
+      pub job : PlainJob
+      pub is_job : IsJob bytes job
+      pub faultless : fault_of job ≡ None
+      pub asks :
+          AsksSolver state allows before.starter after.starter call job.enums (built_steps (steps_to_check bytes job is_job)) before.held
+          after.held
+      pub sent : sent_for asks.checks ++ asks.rest ≡ text_of_job job.enums (built_steps (steps_to_check bytes job is_job))
+      pub believed : TellsAll (state asks.returns.link) → IsHonest allows →
+          AreBelieved job.enums (steps_to_check bytes job is_job) asks.checks
 
-  -- What was asked for is done, where `gen` names this generated job.
-  abbrev pub IsDone : (generation : Option (ℕ × ℕ)) → Option Command → Type 0
-  IsDone generation (Some Script) = Reads (Prints before.held after.held) before.left after.left
-  IsDone generation (Some Check) = Reads Checks before.left after.left
-  IsDone generation (Some Generate) = Summarizes before.held after.held generation
-  IsDone generation (Some Help) = after.held ≡ append_known before.held help_text
-  IsDone generation (Some Version) = after.held ≡ append_known before.held version_text
-  IsDone generation None = ⊥
+    -- What was asked for is done, where `gen` names this generated job.
+    abbrev pub IsDone : (generation : Option (ℕ × ℕ)) → Option Command → Type 0
+    IsDone generation (Some Script) = Reads (Prints before.held after.held) before.left after.left
+    IsDone generation (Some Check) = Reads Checks before.left after.left
+    IsDone generation (Some Generate) = Summarizes before.held after.held generation
+    IsDone generation (Some Help) = after.held ≡ append_known before.held help_text
+    IsDone generation (Some Version) = after.held ≡ append_known before.held version_text
+    IsDone generation None = ⊥
 
 -- ---- what a status says
 
@@ -67,11 +72,17 @@ module _ {L : Type 0} (state : L → LinkState) (allows : List ℕ → List ℕ 
 -- job is refused as such, the summary of a generated job is printed, and so is the text of another word. A fault before the first
 -- check comes before the solver starts.
 pub record IsComplete {L : Type 0} (command : Option Command) (before after : Around L) (status : ℕ) : Type 0 where
-  pub accepted : command ≡ Some Script → ¬ SourceFailed before after → ¬ SinkFailed before after → IfSome before.left (λ bytes. IsFaultlessJob bytes → (status ≡ 0) ⊎ (status ≡ 7))
-  pub checked : command ≡ Some Check → ¬ SourceFailed before after → ¬ SinkFailed before after → ¬ StartFailed before after → IfSome before.left (λ bytes. IsFaultlessJob bytes → (status ≡ 0) ⊎ ((status ≡ 7) ⊎ (status ≡ 8)))
-  pub unwritten : command ≡ Some Script → ¬ SourceFailed before after → ¬ SinkFailed before after → IfSome before.left (λ bytes. IsFaultyScript bytes → (status ≡ 4) ⊎ (status ≡ 7))
-  pub unanswered : command ≡ Some Check → ¬ SourceFailed before after → ¬ SinkFailed before after → ¬ StartFailed before after → IfSome before.left (λ bytes. IsFaultyScript bytes → (status ≡ 4) ⊎ ((status ≡ 7) ⊎ (status ≡ 8)))
-  pub unasked : command ≡ Some Check → ¬ SourceFailed before after → ¬ SinkFailed before after → IfSome before.left (λ bytes. IsFaultyAtFirst bytes → (status ≡ 4) ⊎ (status ≡ 7))
-  pub rejected : (command ≡ Some Script) ⊎ (command ≡ Some Check) → ¬ SourceFailed before after → IfSome before.left (λ bytes. IsNoJob bytes → (status ≡ 3) ⊎ (status ≡ 7))
+  pub accepted : command ≡ Some Script → ¬ SourceFailed before after → ¬ SinkFailed before after →
+      IfSome before.left (λ bytes. IsFaultlessJob bytes → (status ≡ 0) ⊎ (status ≡ 7))
+  pub checked : command ≡ Some Check → ¬ SourceFailed before after → ¬ SinkFailed before after → ¬ StartFailed before after →
+      IfSome before.left (λ bytes. IsFaultlessJob bytes → (status ≡ 0) ⊎ ((status ≡ 7) ⊎ (status ≡ 8)))
+  pub unwritten : command ≡ Some Script → ¬ SourceFailed before after → ¬ SinkFailed before after →
+      IfSome before.left (λ bytes. IsFaultyScript bytes → (status ≡ 4) ⊎ (status ≡ 7))
+  pub unanswered : command ≡ Some Check → ¬ SourceFailed before after → ¬ SinkFailed before after → ¬ StartFailed before after →
+      IfSome before.left (λ bytes. IsFaultyScript bytes → (status ≡ 4) ⊎ ((status ≡ 7) ⊎ (status ≡ 8)))
+  pub unasked : command ≡ Some Check → ¬ SourceFailed before after → ¬ SinkFailed before after →
+      IfSome before.left (λ bytes. IsFaultyAtFirst bytes → (status ≡ 4) ⊎ (status ≡ 7))
+  pub rejected : (command ≡ Some Script) ⊎ (command ≡ Some Check) → ¬ SourceFailed before after →
+      IfSome before.left (λ bytes. IsNoJob bytes → (status ≡ 3) ⊎ (status ≡ 7))
   pub summarized : command ≡ Some Generate → ¬ SinkFailed before after → (status ≡ 0) ⊎ (status ≡ 7)
   pub printed : (command ≡ Some Help) ⊎ (command ≡ Some Version) → ¬ SinkFailed before after → (status ≡ 0) ⊎ (status ≡ 7)

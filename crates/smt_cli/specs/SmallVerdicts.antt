@@ -11,5 +11,7 @@ use Rattle.smt_cli.specs.Run.{Checks, steps_to_check}
 
 -- Where a job was checked by a small solver, its verdicts are believed, with no premise.
 abbrev pub SmallVerdictsAreBelieved : Type 0
-SmallVerdictsAreBelieved = (starter : MiniStarter) (call : SolverCall) (before after : Around MiniLink) (bytes : List ℕ) (c : Checks mini_state (mini_starter_allows starter) call before after bytes)
+SmallVerdictsAreBelieved =
+    (starter : MiniStarter) (call : SolverCall) (before after : Around MiniLink) (bytes : List ℕ)
+    (c : Checks mini_state (mini_starter_allows starter) call before after bytes)
     → AreBelieved c.job.enums (steps_to_check bytes c.job c.is_job) c.asks.checks

@@ -1,6 +1,6 @@
 // The verdicts of a solver on a job.
 ghost use Rattle.std.specs.Prelude.{◌≡◌, ◌<◌, ◌≤◌, IfErr, IfOk, OnOk};
-ghost use Rattle.smt_types.specs.Enums.{enums_of};
+ghost use Rattle.smt_term.specs.Enums.{enums_of};
 ghost use Rattle.law_jobs.specs.Steps.{AreBalanced, checked_steps};
 ghost use Rattle.smt_nodes.specs.declared.interner.Interner.{Interner as Nodes};
 ghost use Rattle.smt_script.specs.Sink.{Rose};
@@ -22,8 +22,12 @@ use std::sync::ledger::{Blank, Ledger};
 
 /// The steps by which a solver is asked: behind those of a section `terms` stands a check.
 fn with_check(steps: Vec<NumberedStep>, section: Section) -> Result<Vec<NumberedStep>, AllocError>
-    ensures steps { IfOk result (λ s. (nodes : Nodes) → steps_by nodes s.items ≡ checked_steps (plain_section section) (steps_by nodes steps.items)) }
-    ensures stand { IfOk result (λ s. (nodes : Nodes) → all_steps_stand nodes s.items ≡ all_steps_stand nodes steps.items) }
+    ensures steps { IfOk result (λ s.
+        (nodes : Nodes) →
+        steps_by nodes s.items
+        ≡ checked_steps (plain_section section) (steps_by nodes steps.items)) }
+    ensures stand { IfOk result
+        (λ s. (nodes : Nodes) → all_steps_stand nodes s.items ≡ all_steps_stand nodes steps.items) }
 {
     let mut steps = steps;
     match section {
@@ -46,8 +50,14 @@ fn ask_job<L: Ledger, W: Sink, P: Starter>(
     requires parts { blank.parts ≡ L.parts }
     requires some { 0 < blank.parts }
     requires balanced { AreBalanced 0 (numbered_steps job.steps) }
-    ensures asked { OnOk result (AsksSolver P.L.state (P.allows starter.old) (P.state starter.old) (P.state starter.new) (command_of solver.now) (enums_of job.enums) (checked_steps (plain_section job.section) (numbered_steps job.steps)) (W.contents out.old) (W.contents out.new)) }
-    ensures refused { IfErr result (WhyNotAsked P.L.state (P.allows starter.old) (P.state starter.old) (P.state starter.new) (command_of solver.now) (enums_of job.enums) (checked_steps (plain_section job.section) (numbered_steps job.steps)) (W.contents out.old) (W.contents out.new) (Rose (W.faults out.old) (W.faults out.new))) }
+    ensures asked { OnOk result (AsksSolver P.L.state (P.allows starter.old) (P.state starter.old)
+        (P.state starter.new) (command_of solver.now) (enums_of job.enums)
+        (checked_steps (plain_section job.section) (numbered_steps job.steps)) (W.contents out.old)
+        (W.contents out.new)) }
+    ensures refused { IfErr result (WhyNotAsked P.L.state (P.allows starter.old)
+        (P.state starter.old) (P.state starter.new) (command_of solver.now) (enums_of job.enums)
+        (checked_steps (plain_section job.section) (numbered_steps job.steps)) (W.contents out.old)
+        (W.contents out.new) (Rose (W.faults out.old) (W.faults out.new))) }
     ensures later { W.faults out.old ≤ W.faults out.new }
     ensures allows { AllowsTheSame (P.allows starter.old) (P.allows starter.new) }
 {
@@ -83,8 +93,14 @@ pub(crate) fn put_verdicts<W: Sink, P: Starter>(
     starter: &mut P,
 ) -> Result<(), CheckRefusal>
     requires balanced { AreBalanced 0 (numbered_steps job.steps) }
-    ensures asked { OnOk result (AsksSolver P.L.state (P.allows starter.old) (P.state starter.old) (P.state starter.new) (command_of solver.now) (enums_of job.enums) (checked_steps (plain_section job.section) (numbered_steps job.steps)) (W.contents out.old) (W.contents out.new)) }
-    ensures refused { IfErr result (WhyNotAsked P.L.state (P.allows starter.old) (P.state starter.old) (P.state starter.new) (command_of solver.now) (enums_of job.enums) (checked_steps (plain_section job.section) (numbered_steps job.steps)) (W.contents out.old) (W.contents out.new) (Rose (W.faults out.old) (W.faults out.new))) }
+    ensures asked { OnOk result (AsksSolver P.L.state (P.allows starter.old) (P.state starter.old)
+        (P.state starter.new) (command_of solver.now) (enums_of job.enums)
+        (checked_steps (plain_section job.section) (numbered_steps job.steps)) (W.contents out.old)
+        (W.contents out.new)) }
+    ensures refused { IfErr result (WhyNotAsked P.L.state (P.allows starter.old)
+        (P.state starter.old) (P.state starter.new) (command_of solver.now) (enums_of job.enums)
+        (checked_steps (plain_section job.section) (numbered_steps job.steps)) (W.contents out.old)
+        (W.contents out.new) (Rose (W.faults out.old) (W.faults out.new))) }
     ensures later { W.faults out.old ≤ W.faults out.new }
     ensures allows { AllowsTheSame (P.allows starter.old) (P.allows starter.new) }
 {

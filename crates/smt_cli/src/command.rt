@@ -3,7 +3,8 @@ ghost use Rattle.std.specs.Prelude.{◌≡◌, IfOk, IsOkUnless, Some};
 ghost use Rattle.std.specs.Rc.{rc_str_bytes};
 ghost use Rattle.law_texts.specs.SharedTexts.{texts};
 ghost use Rattle.smt_solve.specs.Starter.{command_of as solver_call};
-ghost use Rattle.smt_cli.specs.Words.{commanded, count_within, generate_by, generation_in, generation_named, number_named, solver_named};
+ghost use Rattle.smt_cli.specs.Words.{commanded, count_within, generate_by, generation_in};
+ghost use Rattle.smt_cli.specs.Words.{generation_named, number_named, solver_named};
 
 use smt_solve::{SolverCommand, SolverError};
 use smt_term::Text;

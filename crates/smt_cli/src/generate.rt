@@ -1,12 +1,12 @@
 // Jobs by their seeds.
 ghost use Rattle.std.specs.Prelude.{◌≡◌, IfOk};
-ghost use Rattle.smt_job_declarations.specs.DeclarationView.{declarations};
+ghost use Rattle.smt_job_terms.specs.DeclarationView.{declarations};
 ghost use Rattle.smt_jobs.specs.Numbered.{terms_begun};
 ghost use Rattle.smt_cli.specs.Generated.{generated_terms, generated_variables};
 ghost use Rattle.smt_cli.specs.Jobs.{job_generated, job_of_terms};
 
 use crate::terms::{VARIABLES, comparison, next_number, variable};
-use smt_job_declarations::VarList;
+use smt_job_terms::VarList;
 use smt_jobs::{NumberedSteps, StepSink};
 use smt_term::TermError;
 use std::alloc::Global;
@@ -52,7 +52,8 @@ fn numbered(alloc: Global, seed: u64, count: u32) -> Result<NumberedSteps, TermE
 /// # Errors
 /// `Memory`, where there is none for the job.
 pub(crate) fn generated_job(alloc: Global, seed: u64, count: u32) -> Result<GeneratedJob, TermError>
-    ensures { IfOk result (λ job. job_of_terms (declarations job.vars) (terms_begun job.terms) ≡ job_generated seed count) }
+    ensures { IfOk result (λ job.
+        job_of_terms (declarations job.vars) (terms_begun job.terms) ≡ job_generated seed count) }
 {
     let vars = variables(alloc)?;
     Ok(GeneratedJob {

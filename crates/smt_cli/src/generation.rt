@@ -1,12 +1,13 @@
 // What the scripts of generated jobs have.
-ghost use Rattle.std.specs.Prelude.{[], ◌≡◌, ◌<◌, ◌≤◌, IfErr, IfOk, IsOkUnless, None, OnOk, is_some};
+ghost use Rattle.std.specs.Prelude.{[], ◌≡◌, ◌<◌, ◌≤◌, IfErr, IfOk, IsOkUnless, None, OnOk};
+ghost use Rattle.std.specs.Prelude.{is_some};
 ghost use Rattle.std.specs.Io.KnownBytes.{append_known};
 ghost use Rattle.law_terms.specs.Faults.{first_fault};
 ghost use Rattle.smt_term.specs.View.{plain_term};
 ghost use Rattle.law_lines.specs.NameTables.{Tables, name_of_term};
 ghost use Rattle.smt_script.specs.Count.{count_bytes};
 ghost use Rattle.smt_script.specs.Sink.{Rose};
-ghost use Rattle.smt_job_declarations.specs.DeclarationView.{declarations, plain_declaration};
+ghost use Rattle.smt_job_terms.specs.DeclarationView.{declarations, plain_declaration};
 ghost use Rattle.smt_jobs.specs.Numbered.{terms_begun};
 ghost use Rattle.smt_encode.specs.Encoded.{sink_of, HasNames};
 ghost use Rattle.smt_cli.specs.Jobs.{job_generated, job_of_terms};
@@ -18,7 +19,7 @@ use crate::generate::{GeneratedJob, generated_job};
 use crate::refusal::Refusal;
 use crate::summary::Summary;
 use smt_encode::{EncodeError, Encoder, Steps};
-use smt_job_declarations::VarList;
+use smt_job_terms::VarList;
 use smt_jobs::NumberedSteps;
 use smt_script::{CountSink, Sink};
 use smt_term::{EnumTable, Term, TermError, TermVar};
@@ -28,14 +29,17 @@ use std::sync::ledger::{Blank, Ledger};
 
 /// Whether a term has a name.
 fn is_named(encoder: &Encoder<'_, CountSink>, term: &Term) -> bool
-    ensures { (s : Tables) → HasNames encoder.now s → result ≡ is_some (name_of_term s (plain_term term.now)) }
+    ensures { (s : Tables) → HasNames encoder.now s →
+        result ≡ is_some (name_of_term s (plain_term term.now)) }
 {
     encoder.name_of_term(term).is_some()
 }
 
 /// Whether a variable has a name.
 fn is_declared(encoder: &Encoder<'_, CountSink>, variable: &TermVar) -> Result<bool, TermError>
-    ensures { (s : Tables) → HasNames encoder.now s → IfOk result (λ declared. declared ≡ generation.is_declared s (plain_declaration variable.now)) }
+    ensures { (s : Tables) → HasNames encoder.now s →
+        IfOk result
+        (λ declared. declared ≡ generation.is_declared s (plain_declaration variable.now)) }
 {
     let term = Term::from(variable.share()?);
     Ok(is_named(encoder, &term))
@@ -43,7 +47,8 @@ fn is_declared(encoder: &Encoder<'_, CountSink>, variable: &TermVar) -> Result<b
 
 /// How many of these variables have names.
 fn declared_among(encoder: &Encoder<'_, CountSink>, variables: &VarList) -> Result<usize, TermError>
-    ensures { (s : Tables) → HasNames encoder.now s → IfOk result (λ count. count ≡ declared_among s (declarations variables.now)) }
+    ensures { (s : Tables) → HasNames encoder.now s →
+        IfOk result (λ count. count ≡ declared_among s (declarations variables.now)) }
 {
     let mut count: usize = 0;
     for variable in variables.items() {
@@ -60,7 +65,10 @@ fn summarized(
     variables: &VarList,
     terms: usize,
 ) -> Result<Summary, TermError>
-    ensures { (s : Tables) → HasNames encoder.entry s → IfOk result (λ summary. summary ≡ summary_by (count_bytes (sink_of encoder.entry)) s (declarations variables.now) terms) }
+    ensures { (s : Tables) → HasNames encoder.entry s →
+        IfOk result (λ summary.
+        summary
+        ≡ summary_by (count_bytes (sink_of encoder.entry)) s (declarations variables.now) terms) }
 {
     let declared = declared_among(&encoder, variables)?;
     let named = encoder.term_count();
@@ -84,8 +92,10 @@ fn count_script<L: Ledger>(
     requires name { blank.name ≡ L.name }
     requires parts { blank.parts ≡ L.parts }
     requires some { 0 < blank.parts }
-    ensures summary { IfOk result (λ summary. summary ≡ summary_of (job_of_terms (declarations job.vars) (terms_begun job.terms))) }
-    ensures refused { first_fault [] (terms_begun job.terms) ≡ None → IsOkUnless result EncodeError.Memory }
+    ensures summary { IfOk result (λ summary.
+        summary ≡ summary_of (job_of_terms (declarations job.vars) (terms_begun job.terms))) }
+    ensures refused { first_fault [] (terms_begun job.terms) ≡ None →
+        IsOkUnless result EncodeError.Memory }
 {
     let GeneratedJob { vars, terms } = job;
     let NumberedSteps { nodes, begun, .. } = terms;
@@ -125,7 +135,8 @@ pub(crate) fn put_summary<W: Sink>(
     count: u32,
     out: &mut W,
 ) -> Result<(), Refusal>
-    ensures done { OnOk result (W.contents out.new ≡ append_known (W.contents out.old) (summary_text seed count)) }
+    ensures done { OnOk result
+        (W.contents out.new ≡ append_known (W.contents out.old) (summary_text seed count)) }
     ensures refused { IfErr result (HasPutCause (Rose (W.faults out.old) (W.faults out.new))) }
     ensures later { W.faults out.old ≤ W.faults out.new }
 {

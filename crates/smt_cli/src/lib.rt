@@ -23,7 +23,7 @@ mod terms;
 pub use command::Command;
 pub use program::run;
 pub use refusal::Refusal;
-pub use smt_job_declarations::{JobError, UufList, VarList};
+pub use smt_job_terms::{JobError, UufList, VarList};
 pub use smt_jobs::{Job, Section, Step, StepList, StepSink, read_job};
 pub use smt_pool::SessionFault;
 pub use smt_runs::{EncodeRefusal, JobRefusal};

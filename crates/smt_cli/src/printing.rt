@@ -1,6 +1,6 @@
 // The script of a job.
 ghost use Rattle.std.specs.Prelude.{◌≡◌, ◌<◌, ◌≤◌, IfErr, IsErrOf, OnOk};
-ghost use Rattle.smt_types.specs.Enums.{enums_of};
+ghost use Rattle.smt_term.specs.Enums.{enums_of};
 ghost use Rattle.law_terms.specs.Faults.{first_fault};
 ghost use Rattle.law_jobs.specs.Steps.{AreBalanced, asserted};
 ghost use Rattle.smt_script.specs.Sink.{Rose};
@@ -28,8 +28,10 @@ fn encode_job<L: Ledger, W: Sink>(
     requires parts { blank.parts ≡ L.parts }
     requires some { 0 < blank.parts }
     requires balanced { AreBalanced 0 (numbered_steps job.steps) }
-    ensures puts { OnOk result (PutsSteps (enums_of job.enums) (W.contents out.old) (W.contents out.new) (numbered_steps job.steps)) }
-    ensures refused { CausedBy (W.faults out.old) (W.faults out.new) (first_fault (enums_of job.enums) (asserted (numbered_steps job.steps))) result }
+    ensures puts { OnOk result (PutsSteps (enums_of job.enums) (W.contents out.old)
+        (W.contents out.new) (numbered_steps job.steps)) }
+    ensures refused { CausedBy (W.faults out.old) (W.faults out.new)
+        (first_fault (enums_of job.enums) (asserted (numbered_steps job.steps))) result }
     ensures fresh { IsErrOf result EncodeError.Spent → ⊥ }
     ensures later { W.faults out.old ≤ W.faults out.new }
 {
@@ -46,8 +48,11 @@ pub(crate) fn put_script<W: Sink>(
     out: &mut W,
 ) -> Result<(), PrintRefusal>
     requires balanced { AreBalanced 0 (numbered_steps job.steps) }
-    ensures puts { OnOk result (PutsSteps (enums_of job.enums) (W.contents out.old) (W.contents out.new) (numbered_steps job.steps)) }
-    ensures refused { IfErr result (HasPrintCause (first_fault (enums_of job.enums) (asserted (numbered_steps job.steps))) (Rose (W.faults out.old) (W.faults out.new))) }
+    ensures puts { OnOk result (PutsSteps (enums_of job.enums) (W.contents out.old)
+        (W.contents out.new) (numbered_steps job.steps)) }
+    ensures refused { IfErr result (HasPrintCause
+        (first_fault (enums_of job.enums) (asserted (numbered_steps job.steps)))
+        (Rose (W.faults out.old) (W.faults out.new))) }
     ensures later { W.faults out.old ≤ W.faults out.new }
 {
     match encode_job::<Brand, W>(alloc, job, out, Blank::new(1)) {

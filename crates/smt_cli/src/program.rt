@@ -28,8 +28,15 @@ fn check<R: Source, W: Sink, P: Starter>(
     starter: &mut P,
 ) -> Result<(), Refusal>
     requires { commanded (texts words.now) ≡ Some Command.Check }
-    ensures done { OnOk result (IsDone P.L.state (P.allows starter.old) (solver_named (texts words.now)) (around R.remaining R.faults W.contents W.faults P.state source.old out.old starter.old) (around R.remaining R.faults W.contents W.faults P.state source.new out.new starter.new) (generation_named (texts words.now)) (Some Command.Check)) }
-    ensures refused { IfErr result (HasCheckCause P.L.state (P.allows starter.old) (solver_named (texts words.now)) (around R.remaining R.faults W.contents W.faults P.state source.old out.old starter.old) (around R.remaining R.faults W.contents W.faults P.state source.new out.new starter.new)) }
+    ensures done { OnOk result (IsDone P.L.state (P.allows starter.old)
+        (solver_named (texts words.now))
+        (around R.remaining R.faults W.contents W.faults P.state source.old out.old starter.old)
+        (around R.remaining R.faults W.contents W.faults P.state source.new out.new starter.new)
+        (generation_named (texts words.now)) (Some Command.Check)) }
+    ensures refused { IfErr result (HasCheckCause P.L.state (P.allows starter.old)
+        (solver_named (texts words.now))
+        (around R.remaining R.faults W.contents W.faults P.state source.old out.old starter.old)
+        (around R.remaining R.faults W.contents W.faults P.state source.new out.new starter.new)) }
     ensures untouched { IfErr result (LeavesOutput (W.contents out.old) (W.contents out.new)) }
     ensures later { W.faults out.old ≤ W.faults out.new }
     ensures allows { AllowsTheSame (P.allows starter.old) (P.allows starter.new) }
@@ -49,11 +56,20 @@ fn put_answer<R: Source, W: Sink, P: Starter>(
     out: &mut W,
     starter: &mut P,
 ) -> Result<(), Refusal>
-    ensures done { OnOk result (IsDone P.L.state (P.allows starter.old) (solver_named (texts words.now)) (around R.remaining R.faults W.contents W.faults P.state source.old out.old starter.old) (around R.remaining R.faults W.contents W.faults P.state source.new out.new starter.new) (generation_named (texts words.now)) (commanded (texts words.now))) }
-    ensures refused { IfErr result (HasCause P.L.state (P.allows starter.old) (commanded (texts words.now)) (solver_named (texts words.now)) (around R.remaining R.faults W.contents W.faults P.state source.old out.old starter.old) (around R.remaining R.faults W.contents W.faults P.state source.new out.new starter.new)) }
+    ensures done { OnOk result (IsDone P.L.state (P.allows starter.old)
+        (solver_named (texts words.now))
+        (around R.remaining R.faults W.contents W.faults P.state source.old out.old starter.old)
+        (around R.remaining R.faults W.contents W.faults P.state source.new out.new starter.new)
+        (generation_named (texts words.now)) (commanded (texts words.now))) }
+    ensures refused { IfErr result (HasCause P.L.state (P.allows starter.old)
+        (commanded (texts words.now)) (solver_named (texts words.now))
+        (around R.remaining R.faults W.contents W.faults P.state source.old out.old starter.old)
+        (around R.remaining R.faults W.contents W.faults P.state source.new out.new starter.new)) }
     ensures untouched { IfErr result (LeavesOutput (W.contents out.old) (W.contents out.new)) }
-    ensures unread { commanded (texts words.now) ≢ Some Command.Script → commanded (texts words.now) ≢ Some Command.Check → source.new ≡ source.old }
-    ensures unstarted { commanded (texts words.now) ≢ Some Command.Check → starter.new ≡ starter.old }
+    ensures unread { commanded (texts words.now) ≢ Some Command.Script →
+        commanded (texts words.now) ≢ Some Command.Check → source.new ≡ source.old }
+    ensures unstarted { commanded (texts words.now) ≢ Some Command.Check →
+        starter.new ≡ starter.old }
     ensures later { W.faults out.old ≤ W.faults out.new }
     ensures allows { AllowsTheSame (P.allows starter.old) (P.allows starter.new) }
 {
@@ -82,11 +98,20 @@ fn answer<R: Source, W: Sink, P: Starter>(
     out: &mut W,
     starter: &mut P,
 ) -> Result<(), Refusal>
-    ensures done { OnOk result (IsDone P.L.state (P.allows starter.old) (solver_named (texts words.now)) (around R.remaining R.faults W.contents W.faults P.state source.old out.old starter.old) (around R.remaining R.faults W.contents W.faults P.state source.new out.new starter.new) (generation_named (texts words.now)) (commanded (texts words.now))) }
-    ensures refused { IfErr result (HasCause P.L.state (P.allows starter.old) (commanded (texts words.now)) (solver_named (texts words.now)) (around R.remaining R.faults W.contents W.faults P.state source.old out.old starter.old) (around R.remaining R.faults W.contents W.faults P.state source.new out.new starter.new)) }
+    ensures done { OnOk result (IsDone P.L.state (P.allows starter.old)
+        (solver_named (texts words.now))
+        (around R.remaining R.faults W.contents W.faults P.state source.old out.old starter.old)
+        (around R.remaining R.faults W.contents W.faults P.state source.new out.new starter.new)
+        (generation_named (texts words.now)) (commanded (texts words.now))) }
+    ensures refused { IfErr result (HasCause P.L.state (P.allows starter.old)
+        (commanded (texts words.now)) (solver_named (texts words.now))
+        (around R.remaining R.faults W.contents W.faults P.state source.old out.old starter.old)
+        (around R.remaining R.faults W.contents W.faults P.state source.new out.new starter.new)) }
     ensures untouched { IfErr result (LeavesOutput (W.contents out.old) (W.contents out.new)) }
-    ensures unread { commanded (texts words.now) ≢ Some Command.Script → commanded (texts words.now) ≢ Some Command.Check → source.new ≡ source.old }
-    ensures unstarted { commanded (texts words.now) ≢ Some Command.Check → starter.new ≡ starter.old }
+    ensures unread { commanded (texts words.now) ≢ Some Command.Script →
+        commanded (texts words.now) ≢ Some Command.Check → source.new ≡ source.old }
+    ensures unstarted { commanded (texts words.now) ≢ Some Command.Check →
+        starter.new ≡ starter.old }
     ensures allows { AllowsTheSame (P.allows starter.old) (P.allows starter.new) }
 {
     let outcome = put_answer(alloc, words, source, out, starter);
@@ -150,12 +175,27 @@ pub fn run<R: Source, W: Sink, D: Sink, P: Starter>(
     diag: &mut D,
     starter: &mut P,
 ) -> u8
-    ensures done { result ≡ 0 → IsDone P.L.state (P.allows starter.old) (solver_named (texts words.now)) (around R.remaining R.faults W.contents W.faults P.state source.old out.old starter.old) (around R.remaining R.faults W.contents W.faults P.state source.new out.new starter.new) (generation_named (texts words.now)) (commanded (texts words.now)) }
+    ensures done { result ≡ 0 →
+        IsDone P.L.state (P.allows starter.old) (solver_named (texts words.now))
+        (around R.remaining R.faults W.contents W.faults P.state source.old out.old starter.old)
+        (around R.remaining R.faults W.contents W.faults P.state source.new out.new starter.new)
+        (generation_named (texts words.now)) (commanded (texts words.now)) }
     ensures usage { result ≡ 2 ↔ (commanded (texts words.now) ≡ None) }
-    ensures complete { IsComplete (commanded (texts words.now)) (around R.remaining R.faults W.contents W.faults P.state source.old out.old starter.old) (around R.remaining R.faults W.contents W.faults P.state source.new out.new starter.new) result }
-    ensures unread { commanded (texts words.now) ≢ Some Command.Script → commanded (texts words.now) ≢ Some Command.Check → source.new ≡ source.old }
-    ensures unstarted { commanded (texts words.now) ≢ Some Command.Check → starter.new ≡ starter.old }
-    ensures report { Reports status_of line_of (HasCause P.L.state (P.allows starter.old) (commanded (texts words.now)) (solver_named (texts words.now)) (around R.remaining R.faults W.contents W.faults P.state source.old out.old starter.old) (around R.remaining R.faults W.contents W.faults P.state source.new out.new starter.new)) (LeavesOutput (W.contents out.old) (W.contents out.new)) D.contents D.faults D.has_room D.place diag.old diag.new result }
+    ensures complete { IsComplete (commanded (texts words.now))
+        (around R.remaining R.faults W.contents W.faults P.state source.old out.old starter.old)
+        (around R.remaining R.faults W.contents W.faults P.state source.new out.new starter.new)
+        result }
+    ensures unread { commanded (texts words.now) ≢ Some Command.Script →
+        commanded (texts words.now) ≢ Some Command.Check → source.new ≡ source.old }
+    ensures unstarted { commanded (texts words.now) ≢ Some Command.Check →
+        starter.new ≡ starter.old }
+    ensures report { Reports status_of line_of
+        (HasCause P.L.state (P.allows starter.old) (commanded (texts words.now))
+        (solver_named (texts words.now))
+        (around R.remaining R.faults W.contents W.faults P.state source.old out.old starter.old)
+        (around R.remaining R.faults W.contents W.faults P.state source.new out.new starter.new))
+        (LeavesOutput (W.contents out.old) (W.contents out.new)) D.contents D.faults D.has_room
+        D.place diag.old diag.new result }
     ensures allows { AllowsTheSame (P.allows starter.old) (P.allows starter.new) }
 {
     match answer(alloc, words, source, out, starter) {

@@ -24,7 +24,8 @@ pub(crate) struct Summary {
 
 /// Appends a line: a word, a space and a number.
 fn push_line(alloc: Global, text: &mut String, word: &str, number: u64) -> Result<(), AllocError>
-    ensures { OnOk result (string_bytes text.new ≡ string_bytes text.old ++ number_line word.now number) }
+    ensures { OnOk result
+        (string_bytes text.new ≡ string_bytes text.old ++ number_line word.now number) }
 {
     let line = format!(in alloc; "{word} {number}\n")?;
     text.push_str(line.as_str())

@@ -1,11 +1,12 @@
 // The variables and the terms of generated jobs.
 ghost use Rattle.std.specs.Prelude.{◌≡◌, ◌+◌, ◌%◌, ◌<◌, IfOk};
 ghost use Rattle.law_terms.specs.Plain.{PlainTerm};
-ghost use Rattle.smt_term.specs.View.{plain_term, plain_variable};
-ghost use Rattle.smt_cli.specs.Generated.{comparison, next_number, sum_at, variable_at, variable_id};
+ghost use Rattle.smt_term.specs.View.{BuildsTerm, plain_variable};
+ghost use Rattle.smt_cli.specs.Generated.{comparison, next_number, sum_at, variable_at};
+ghost use Rattle.smt_cli.specs.Generated.{variable_id};
 
 use smt_bits::{BitVec, SIXTY_FOUR};
-use smt_factory_bits::{bvadd, bvslt};
+use smt_factory_core::{bvadd, bvslt};
 use smt_term::{Term, TermError, TermType, TermVar, Text};
 use std::alloc::Global;
 
@@ -51,7 +52,7 @@ pub(crate) fn variable(alloc: Global, number: u32) -> Result<TermVar, TermError>
 
 /// The variable of a place.
 fn variable_at(alloc: Global, place: u32) -> Result<Term, TermError>
-    ensures { IfOk result (λ term. plain_term term ≡ variable_at place) }
+    ensures { BuildsTerm result (variable_at place) }
 {
     Ok(Term::from(variable(alloc, place % VARIABLES)?))
 }
@@ -59,7 +60,7 @@ fn variable_at(alloc: Global, place: u32) -> Result<Term, TermError>
 /// The sum of the variables of a place and the next one.
 fn sum_at(alloc: Global, place: u32) -> Result<Term, TermError>
     requires { place < u32.MAX }
-    ensures { IfOk result (λ term. plain_term term ≡ sum_at place) }
+    ensures { BuildsTerm result (sum_at place) }
 {
     let first = variable_at(alloc, place)?;
     let second = variable_at(alloc, place + 1)?;
@@ -69,7 +70,7 @@ fn sum_at(alloc: Global, place: u32) -> Result<Term, TermError>
 /// Whether the sum at a place is less than a number.
 pub(crate) fn comparison(alloc: Global, place: u32, number: u64) -> Result<Term, TermError>
     requires { place < u32.MAX }
-    ensures { IfOk result (λ term. plain_term term ≡ comparison place number) }
+    ensures { BuildsTerm result (comparison place number) }
 {
     let sum = sum_at(alloc, place)?;
     let number = Term::from(BitVec::of_nat(SIXTY_FOUR, u128::from(number)));

@@ -3,7 +3,7 @@ use Rattle.std.proofs.Common.{◌≡◌, ℕ, ◌+◌, List, [], ◌∷◌, ◌+
 use Rattle.std.specs.Prelude.{unwrap_or}
 use Rattle.std.specs.Io.KnownBytes.{append_known}
 use Rattle.std.specs.List.{AllByRecursion}
-use Rattle.smt_types.specs.Enums.{enums_of}
+use Rattle.smt_term.specs.Enums.{enums_of}
 use Rattle.law_terms.specs.Faults.{first_fault}
 use Rattle.law_terms.specs.Formed.{IsFormed}
 use Rattle.law_terms.specs.Plain.{PlainTerm}
@@ -18,9 +18,9 @@ use Rattle.smt_nodes.specs.declared.id.NodeId.{NodeId}
 use Rattle.smt_nodes.specs.declared.interner.Interner.{Interner}
 use Rattle.smt_spelling.specs.NodeTexts.{StandFor}
 use Rattle.smt_term.specs.View.{plain_term}
-use Rattle.smt_types.specs.declared.enums.EnumTable.{EnumTable}
+use Rattle.smt_term.specs.declared.enums.EnumTable.{EnumTable}
 use Rattle.smt_term.specs.declared.term.Term.{Term}
-use Rattle.smt_types.proofs.AscendingTexts.{members_ascend}
+use Rattle.smt_term.proofs.AscendingTexts.{members_ascend}
 use Rattle.smt_term.proofs.FormedTerms.{both_formed, terms_are_formed}
 use Rattle.smt_nodes.proofs.Formed.{nodes_formed}
 use Rattle.law_lines.specs.NameTables.{Tables}

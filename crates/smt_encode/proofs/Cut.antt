@@ -17,7 +17,7 @@ use Rattle.law_scripts.specs.Written.{IsOpenScript}
 use Rattle.law_scripts.proofs.Append.{script_append, whole_append}
 use Rattle.law_lines.specs.Command.{commands}
 use Rattle.law_lines.specs.Encodable.{AreEncodable}
-use Rattle.law_lines.specs.Fit.{Fit, Steps}
+use Rattle.law_lines.specs.Fit.{Fit, AreObeyable}
 use Rattle.law_lines.specs.Line.{Line, Assert, spelled_line, spelled_lines}
 use Rattle.law_lines.specs.Lines.{EncodeCall, Enums, beginning, encode, encode_terms, lines_of_call}
 use Rattle.law_lines.specs.NameTables.{Tables}
@@ -57,7 +57,7 @@ err_of {T} {E} P outcome e is h = subst (λ (r : Result T E). IfErr r P) is h
 
 -- ---- lines that are obeyed
 
-pub steps_obeyed : (enums : Enums) (s left : Tables) (lines : List Line) → Steps enums s lines left → (state : State) → Fit enums s state → Obeyed lines state
+pub steps_obeyed : (enums : Enums) (s left : Tables) (lines : List Line) → AreObeyable enums s lines left → (state : State) → Fit enums s state → Obeyed lines state
 steps_obeyed enums s left lines steps state fit =
     let r = steps state fit in
     let h = lines_hold lines r.written in

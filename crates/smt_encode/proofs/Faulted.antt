@@ -6,8 +6,8 @@ use Rattle.std.specs.Rc.{rc_str_bytes}
 use Rattle.law_terms.specs.Faults.{Fault, EmptyEnum, EncodeStringFailed, EncodePatternFailed, EnumMissingMember, ExpectRecord, MalformedRecordGet, MissingTypeEncoding, RecordMissingAttr}
 use Rattle.smt_script.specs.Sink.{Rose}
 use Rattle.smt_script.specs.declared.sink.SinkError.TheVariants.{Fault as Failed, Memory as NoRoom}
-use Rattle.smt_types.specs.Entities.{bytes_of_id, bytes_of_type}
-use Rattle.smt_types.specs.PatternView.{plain_ord_pattern}
+use Rattle.smt_term.specs.Entities.{bytes_of_id, bytes_of_type}
+use Rattle.smt_term.specs.PatternView.{plain_ord_pattern}
 use Rattle.smt_encode.specs.Errors.{encode_error}
 use Rattle.smt_encode.specs.Refusals.{write_fault, HasCause, IsComplete}
 use Rattle.smt_spelling.specs.TextFaults.{Finds}

@@ -12,7 +12,7 @@ use Rattle.law_terms.specs.Nodes.{Meaning}
 use Rattle.law_terms.proofs.Places.{map_back, then_back, some_same}
 use Rattle.smt_nodes.specs.View.{place_of, places_of}
 use Rattle.smt_nodes.specs.declared.id.NodeId.{NodeId}
-use Rattle.law_lines.specs.Fit.{Steps, StepsOf}
+use Rattle.law_lines.specs.Fit.{AreObeyable, IsObeyable}
 use Rattle.law_lines.specs.Line.{Line}
 use Rattle.law_lines.specs.Lines.{Enums, Written}
 use Rattle.law_lines.specs.NameTables.{Tables}
@@ -79,7 +79,7 @@ pub record Going {S : Type 0} (contents : S → Option (List ℕ)) (enums : Enum
   pub wrote : Wrote contents first now lines tables
   pub shown : AreSpelled made texts
   pub whole : encode_meanings enums all s ≡ behind_these made lines (encode_meanings enums left tables)
-  pub steps : AreTypedMeanings all → Steps enums s lines tables
+  pub steps : AreTypedMeanings all → AreObeyable enums s lines tables
 
 pub starts : {S : Type 0} {contents : S → Option (List ℕ)} {enums : Enums} (e : Writer S) (all : List Meaning) {texts : List (RcStr Global)} (s : Tables) → texts ≡ [] → HasTables e s → Going contents enums e e all all texts s
 starts {enums = enums} e all s none has = record { tables = s; lines = []; made = []; wrote = nothing_written e s has; shown = ap (map rc_str_bytes) none; whole = refl; steps = λ typed. no_step enums s }
@@ -102,7 +102,7 @@ same_enums m text s same p = rw (sym same) p
 pub goes_on : {S : Type 0} {contents : S → Option (List ℕ)} {enums : Enums} {first now next : Writer S} {left left' all : List Meaning} {texts texts' : List (RcStr Global)} {s : Tables} (m : Meaning) (text : RcStr Global)
     → left ≡ m ∷ left' → texts' ≡ texts ++ text ∷ [] → (g : Going contents enums first now left all texts s)
     → (Wrote contents now next (encode_meaning enums m g.tables).lines (encode_meaning enums m g.tables).tables × IsSpelled (encode_meaning enums m g.tables).made text)
-    → (AreTypedMeanings all → StepsOf enums g.tables (encode_meaning enums m g.tables))
+    → (AreTypedMeanings all → IsObeyable enums g.tables (encode_meaning enums m g.tables))
     → Going contents enums first next left' all texts' s
 goes_on {enums = enums} {left = left} {left'} {texts = texts} m text this more g p step =
     let w : Written Expression = encode_meaning enums m g.tables in
@@ -148,7 +148,7 @@ stops_at {contents = contents} {enums} {first = first} {now} {next} {left' = lef
 
 -- what follows the next node stopped, before more lines
 pub stops_behind : {S : Type 0} {contents : S → Option (List ℕ)} {enums : Enums} {first now next : Writer S} {left left' all : List Meaning} {texts : List (RcStr Global)} {s : Tables} (m : Meaning) (e : WriteError) → left ≡ m ∷ left' → (g : Going contents enums first now left all texts s)
-    → Wrote contents now next (encode_meaning enums m g.tables).lines (encode_meaning enums m g.tables).tables → (AreTypedMeanings all → StepsOf enums g.tables (encode_meaning enums m g.tables))
+    → Wrote contents now next (encode_meaning enums m g.tables).lines (encode_meaning enums m g.tables).tables → (AreTypedMeanings all → IsObeyable enums g.tables (encode_meaning enums m g.tables))
     → Stopped contents (AreObeyed enums (AreTypedMeanings all) s) first next (encode_meanings enums all s).lines e
 stops_behind {enums = enums} {first} {now} {next} {left' = left'} {all} {s = s} m e this g p step =
     let w : Written Expression = encode_meaning enums m g.tables in

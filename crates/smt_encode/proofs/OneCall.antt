@@ -4,9 +4,9 @@ use Rattle.std.specs.Prelude.{IfErr, unwrap_or}
 use Rattle.std.specs.Result.{IsErrAnd}
 use Rattle.std.proofs.lemmas.Bool.{false≢true}
 use Rattle.std.specs.Io.KnownBytes.{append_known}
-use Rattle.smt_types.specs.Enums.{enums_of}
-use Rattle.smt_types.specs.declared.enums.EnumTable.{EnumTable}
-use Rattle.smt_types.proofs.AscendingTexts.{members_ascend}
+use Rattle.smt_term.specs.Enums.{enums_of}
+use Rattle.smt_term.specs.declared.enums.EnumTable.{EnumTable}
+use Rattle.smt_term.proofs.AscendingTexts.{members_ascend}
 use Rattle.law_terms.specs.TypeValues.{Enums}
 use Rattle.law_lines.specs.Calls.{HasBelow}
 use Rattle.law_lines.specs.Line.{Line, Pop, spelled_lines}

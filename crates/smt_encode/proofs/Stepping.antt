@@ -9,7 +9,7 @@ use Rattle.law_terms.specs.Nodes.{FunctionLabel, FunctionMeaning, Meaning, Plain
 use Rattle.law_terms.specs.Parts.{parts_in}
 use Rattle.law_terms.proofs.Places.{map_back, some_same, then_back}
 use Rattle.law_terms.proofs.Soundness.{none-first, none-second}
-use Rattle.law_lines.specs.Fit.{Steps, StepsOf}
+use Rattle.law_lines.specs.Fit.{AreObeyable, IsObeyable}
 use Rattle.law_lines.specs.Line.{Line}
 use Rattle.law_lines.specs.Lines.{Enums}
 use Rattle.law_lines.specs.NameTables.{Tables}
@@ -69,14 +69,14 @@ all_formed i (place ∷ places) ps h =
 -- ---- their lines can be obeyed
 
 module _ (enums : Enums) where
-  pub meaning_steps : (m : Meaning) (s : Tables) → IsTrue (is_typed m) → IsFormedWhole m → meaning_fault enums m ≡ None → StepsOf enums s (encode_meaning enums m s)
+  pub meaning_steps : (m : Meaning) (s : Tables) → IsTrue (is_typed m) → IsFormedWhole m → meaning_fault enums m ≡ None → IsObeyable enums s (encode_meaning enums m s)
   meaning_steps (TypeMeaning t) s typed well none = types_step enums t s (fine_type enums t none well)
   meaning_steps (FunctionMeaning f) s typed well none = functions_step enums f s
       (fine_type enums f.argument (none-first (type_fault enums f.argument) (type_fault enums f.output) none) well.0)
       (fine_type enums f.output (none-second (type_fault enums f.argument) (type_fault enums f.output) none) well.1)
   meaning_steps (TermMeaning t) s typed well none = terms_step enums t s (fine enums t typed none (both_formed t well).types)
 
-  pub meanings_steps : (ms : List Meaning) (s : Tables) → AreTypedMeanings ms → AllByRecursion IsFormedWhole ms → meanings_fault enums ms ≡ None → StepsOf enums s (encode_meanings enums ms s)
+  pub meanings_steps : (ms : List Meaning) (s : Tables) → AreTypedMeanings ms → AllByRecursion IsFormedWhole ms → meanings_fault enums ms ≡ None → IsObeyable enums s (encode_meanings enums ms s)
   meanings_steps [] s typed well none = no_step enums s
   meanings_steps (m ∷ ms) s typed well none =
       let u : Tables = (encode_meaning enums m s).tables in
@@ -84,6 +84,6 @@ module _ (enums : Enums) where
       (steps_then enums (meanings_steps ms u typed.1 well.1 (none-second (meaning_fault enums m) (meanings_fault enums ms) none)) (no_step enums (encode_meanings enums ms u).tables))
 
   -- behind what stands before the lines of a node's parts
-  pub heading_steps : (l : PlainLabel) (s : Tables) (ls : List Line) (u : Tables) → Steps enums s ls u → Steps enums s (heading l ++ ls) u
+  pub heading_steps : (l : PlainLabel) (s : Tables) (ls : List Line) (u : Tables) → AreObeyable enums s ls u → AreObeyable enums s (heading l ++ ls) u
   heading_steps (FunctionLabel id) s ls u h = comment_first enums id s ls u h
   heading_steps l s ls u h = h

@@ -5,7 +5,7 @@ use Rattle.std.specs.Io.KnownBytes.{append_known}
 use Rattle.std.specs.Result.{IsErrAnd}
 use Rattle.law_terms.specs.Faults.{Fault}
 use Rattle.law_texts.specs.Reading.{Expression}
-use Rattle.law_lines.specs.Fit.{Steps}
+use Rattle.law_lines.specs.Fit.{AreObeyable}
 use Rattle.law_lines.specs.Line.{Line, spelled_lines}
 use Rattle.law_lines.specs.Lines.{Enums, Written, behind, ◌>>=◌}
 use Rattle.law_lines.specs.NameTables.{Tables}
@@ -85,7 +85,7 @@ module _ {S : Type 0} {contents : S → Option (List ℕ)} {enums : Enums} {Type
   }
 
   -- behind whole lines
-  pub after_lines : (old new : Writer S) (lines rest stated : List Line) (left named : Tables) (e : WriteError) → lines ++ rest ≡ stated → contents new.script ≡ append_known (contents old.script) (spelled_lines lines) → HasTables new named → (Typed → Steps enums s lines left) → Stopped contents (AreObeyed enums Typed s) old new stated e
+  pub after_lines : (old new : Writer S) (lines rest stated : List Line) (left named : Tables) (e : WriteError) → lines ++ rest ≡ stated → contents new.script ≡ append_known (contents old.script) (spelled_lines lines) → HasTables new named → (Typed → AreObeyable enums s lines left) → Stopped contents (AreObeyed enums Typed s) old new stated e
   after_lines old new lines rest stated left named e first put has steps = record {
     lines = lines;
     rest = rest;
@@ -98,7 +98,7 @@ module _ {S : Type 0} {contents : S → Option (List ℕ)} {enums : Enums} {Type
   }
 
   -- inside lines, by an error that names no fault
-  pub inside_lines : (old new : Writer S) (lines rest stated : List Line) (left named : Tables) (e : WriteError) → lines ++ rest ≡ stated → write_fault e ≡ None → AppendsPart (contents old.script) (contents new.script) (spelled_lines lines) → HasTables new named → (Typed → Steps enums s lines left) → Stopped contents (AreObeyed enums Typed s) old new stated e
+  pub inside_lines : (old new : Writer S) (lines rest stated : List Line) (left named : Tables) (e : WriteError) → lines ++ rest ≡ stated → write_fault e ≡ None → AppendsPart (contents old.script) (contents new.script) (spelled_lines lines) → HasTables new named → (Typed → AreObeyable enums s lines left) → Stopped contents (AreObeyed enums Typed s) old new stated e
   inside_lines old new lines rest stated left named e first none part has steps = record {
     lines = lines;
     rest = rest;
@@ -111,7 +111,7 @@ module _ {S : Type 0} {contents : S → Option (List ℕ)} {enums : Enums} {Type
   }
 
   -- behind lines that were put
-  pub stopped_behind : {Inner : Type 0} (old mid new : Writer S) (lines stated rest whole : List Line) (t : Tables) (e : WriteError) → lines ++ (stated ++ rest) ≡ whole → contents mid.script ≡ append_known (contents old.script) (spelled_lines lines) → (Typed → Steps enums s lines t) → (Typed → Inner)
+  pub stopped_behind : {Inner : Type 0} (old mid new : Writer S) (lines stated rest whole : List Line) (t : Tables) (e : WriteError) → lines ++ (stated ++ rest) ≡ whole → contents mid.script ≡ append_known (contents old.script) (spelled_lines lines) → (Typed → AreObeyable enums s lines t) → (Typed → Inner)
       → Stopped contents (AreObeyed enums Inner t) mid new stated e → Stopped contents (AreObeyed enums Typed s) old new whole e
   stopped_behind old mid new lines stated rest whole t e is put steps inner st = record {
     lines = lines ++ st.lines;
@@ -129,7 +129,7 @@ module _ {S : Type 0} {contents : S → Option (List ℕ)} {enums : Enums} {Type
 
   -- all is put but its own lines, and of these a first part
   own_stopped : (old mid new : Writer S) (front own : List Line) (t u : Tables) (fault : Option Fault) (e : WriteError) → contents mid.script ≡ append_known (contents old.script) (spelled_lines front) → OwnStopped contents fault mid new own
-      → ((f : Fault) → write_fault e ≡ Some f → fault ≡ Some f) → (Typed → Steps enums s front t) → (Typed → fault ≡ None → Steps enums s (front ++ own) u) → Stopped contents (AreObeyed enums Typed s) old new (front ++ own) e
+      → ((f : Fault) → write_fault e ≡ Some f → fault ≡ Some f) → (Typed → AreObeyable enums s front t) → (Typed → fault ≡ None → AreObeyable enums s (front ++ own) u) → Stopped contents (AreObeyed enums Typed s) old new (front ++ own) e
   own_stopped old mid new front own t u None e put st finds steps whole = record {
     lines = front ++ own;
     rest = [];
@@ -147,7 +147,7 @@ module _ {S : Type 0} {contents : S → Option (List ℕ)} {enums : Enums} {Type
   -- what is stated of a node is written, or stops
   pub node_written : {A T : Type 0} (old mid after new : Writer S) (ls : List Line) (w : Written (List Expression)) (own : List Expression → Tables → Written A) (Shows : A → T → Type 0) (fault : Option Fault) (result : Result T WriteError)
       → contents mid.script ≡ append_known (contents old.script) (spelled_lines ls) → Wrote contents mid after w.lines w.tables → WritesOwn contents fault after new (own w.made w.tables) Shows result → Finds write_fault fault result
-      → (Typed → Steps enums s (ls ++ w.lines) w.tables) → (Typed → fault ≡ None → Steps enums s (ls ++ (w.lines ++ (own w.made w.tables).lines)) (own w.made w.tables).tables)
+      → (Typed → AreObeyable enums s (ls ++ w.lines) w.tables) → (Typed → fault ≡ None → AreObeyable enums s (ls ++ (w.lines ++ (own w.made w.tables).lines)) (own w.made w.tables).tables)
       → WritesOrStopsHere contents enums Typed s old new (behind ls (w >>= own)) Shows result
   node_written old mid after new ls w own Shows fault (Ok x) put wrote writes finds steps whole =
       let both = binds w own wrote writes.0 in (
@@ -163,7 +163,7 @@ module _ {S : Type 0} {contents : S → Option (List ℕ)} {enums : Enums} {Type
       let front : contents after.script ≡ append_known (contents old.script) (spelled_lines (ls ++ w.lines)) =
       appends_then (contents old.script) (contents mid.script) (contents after.script) (spelled_lines ls) (spelled_lines w.lines) put wrote.contents_are ∙ ap (append_known (contents old.script)) (sym (lines_append ls w.lines)) in
       subst (λ (l : List Line). Stopped contents (AreObeyed enums Typed s) old new l e) same
-      (own_stopped old after new (ls ++ w.lines) o.lines w.tables o.tables fault e front writes finds steps (λ typed none. subst (λ (l : List Line). Steps enums s l o.tables) (sym same) (whole typed none)))
+      (own_stopped old after new (ls ++ w.lines) o.lines w.tables o.tables fault e front writes finds steps (λ typed none. subst (λ (l : List Line). AreObeyable enums s l o.tables) (sym same) (whole typed none)))
 
 -- what stopped in a writer that has the same sink
 pub stopped_here : {S : Type 0} (contents : S → Option (List ℕ)) (CanBeObeyed : List Line → Type 0) (old mid new : Writer S) (stated : List Line) (e : WriteError) → mid.script ≡ old.script → Stopped contents CanBeObeyed mid new stated e → Stopped contents CanBeObeyed old new stated e

@@ -6,9 +6,9 @@ use Rattle.std.specs.declared.alloc.Global.{Global}
 use Rattle.std.specs.declared.rc.RcStr.{RcStr}
 use Rattle.law_terms.specs.Faults.{Fault, entity_fault, entity_type_fault}
 use Rattle.law_terms.specs.TypeValues.{Enums, members_of}
-use Rattle.smt_types.specs.Entities.{bytes_of_id, bytes_of_type}
-use Rattle.smt_types.specs.declared.entity.EntityType.{EntityType}
-use Rattle.smt_types.specs.declared.entity.EntityUID.{EntityUID}
+use Rattle.smt_term.specs.Entities.{bytes_of_id, bytes_of_type}
+use Rattle.smt_term.specs.declared.entity.EntityType.{EntityType}
+use Rattle.smt_term.specs.declared.entity.EntityUID.{EntityUID}
 use Rattle.law_texts.specs.LineTexts.{define_fun_text, spaced}
 use Rattle.law_texts.specs.Reading.{Expression}
 use Rattle.law_scripts.specs.Script.{name}
@@ -45,7 +45,8 @@ abbrev pub set_body_text : (sort : List ℕ) → (elements : List (List ℕ)) �
 set_body_text sort [] = empty_set_text sort
 set_body_text sort (e ∷ es) = codes "(set.insert " ++ (spaced ((e ∷ es) ++ empty_set_text sort ∷ []) ++ codes ")")
 
--- the body of a record, by its sort and its fields as they stand, a space between each two: the sort alone where the joined fields have no character
+-- the body of a record, by its sort and its fields as they stand, a space between each two: the sort alone where the joined fields have no
+-- character
 abbrev pub body_of_joined : (sort fields : List ℕ) → List ℕ
 body_of_joined sort [] = sort
 body_of_joined sort (b ∷ bs) = codes "(" ++ (sort ++ (codes " " ++ ((b ∷ bs) ++ codes ")")))
@@ -63,7 +64,8 @@ abbrev pub name_of_entity : (members : Option (List (List ℕ))) → (id sort : 
 name_of_entity (Some members) id sort s = enum_member members sort id
 name_of_entity None id sort s = next_term s
 
--- the line of an entity, which a member of an enum type does not have: it defines the next name as the constructor at the id, which is named as the sort
+-- the line of an entity, which a member of an enum type does not have: it defines the next name as the constructor at the id, which is
+-- named as the sort
 abbrev pub line_of_entity : (members : Option (List (List ℕ))) → (id sort : List ℕ) → Tables → List ℕ
 line_of_entity (Some members) id sort s = []
 line_of_entity None id sort s = define_fun_text (next_term s) [] sort (spelled (entity_body sort id))
@@ -92,7 +94,8 @@ pub record NamesStay {S : Type 0} (faults : S → ℕ) (place : S → List ℕ) 
 -- ---- the same of a writer
 
 -- The writer's names stay. Its errors are those of the sink, or have this fault; where there is a fault, it put nothing.
-pub record PutsAlone {S T : Type 0} (faults : S → ℕ) (place : S → List ℕ) (fault : Option Fault) (old new : Writer S) (result : Result T WriteError) : Type 0 where
+pub record PutsAlone {S T : Type 0} (faults : S → ℕ) (place : S → List ℕ) (fault : Option Fault) (old new : Writer S)
+    (result : Result T WriteError) : Type 0 where
   pub counted : FaultCounted faults place (Sink Failed) old new result
   pub finds : Finds write_fault fault result
   pub names : new.names ≡ old.names

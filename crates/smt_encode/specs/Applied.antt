@@ -28,7 +28,8 @@ use Rattle.smt_encode.specs.declared.writer.Writer.{Writer}
 
 -- ---- what is put
 
--- the body that takes an attribute of a value of a type, by the name that the type has: the selector at the operands, which stand as they are
+-- the body that takes an attribute of a value of a type, by the name that the type has: the selector at the operands, which stand as they
+-- are
 abbrev pub selection_text : (attribute : List ℕ) → PlainType → (operands : List (List ℕ)) → Tables → List ℕ
 selection_text a t es s = spelled (application_body (selector a t s) (RecordGetOp a) (map name es))
 
@@ -36,15 +37,20 @@ selection_text a t es s = spelled (application_body (selector a t s) (RecordGetO
 abbrev pub application_line : (head : Expression) → PlainOp → (sort : List ℕ) → (operands : List (List ℕ)) → Tables → List ℕ
 application_line head op sort es s = define_fun_text (next_term s) [] sort (spelled (application_body head op (map name es)))
 
--- The sink got the lines of what an application begins with, and behind them the application's own; the answer is its name. The encoder has the names of what it begins with.
-pub record PutApplied {S : Type 0} (contents : S → Option (List ℕ)) (old new : Encoder S) (w : Written Expression) (op : PlainOp) (sort : List ℕ) (operands : List (List ℕ)) (answer : RcStr Global) : Type 0 where
-  pub got : contents (sink_of new) ≡ append_known (contents (sink_of old)) (spelled_lines w.lines ++ application_line w.made op sort operands w.tables)
+-- The sink got the lines of what an application begins with, and behind them the application's own; the answer is its name. The encoder has
+-- the names of what it begins with.
+pub record PutApplied {S : Type 0} (contents : S → Option (List ℕ)) (old new : Encoder S) (w : Written Expression) (op : PlainOp)
+    (sort : List ℕ) (operands : List (List ℕ)) (answer : RcStr Global) : Type 0 where
+  pub got :
+      contents (sink_of new)
+      ≡ append_known (contents (sink_of old)) (spelled_lines w.lines ++ application_line w.made op sort operands w.tables)
   pub named : rc_str_bytes answer ≡ next_term w.tables
   pub names : HasTexts new w.tables
 
 -- ---- why it refuses
 
--- the fault of an application by its terms: of `record.get` that there is no term, or else the fault at the first one's type; of a function its own; of any other operator that of its pattern
+-- the fault of an application by its terms: of `record.get` that there is no term, or else the fault at the first one's type; of a function
+-- its own; of any other operator that of its pattern
 abbrev pub fault_of_application : Enums → Tables → PlainOp → List PlainTerm → Option Fault
 fault_of_application enums s (RecordGetOp a) [] = Some MalformedRecordGet
 fault_of_application enums s (RecordGetOp a) (t ∷ ts) = fault_of_selection s a (type_of t)
@@ -60,7 +66,9 @@ begins_with_function op = false
 
 -- A writer's sink got the lines of what an application begins with, and behind them the application's own; the answer is its name.
 -- The writer has the names of what it begins with.
-pub record WroteApplied {S : Type 0} (contents : S → Option (List ℕ)) (old new : Writer S) (w : Written Expression) (op : PlainOp) (sort : List ℕ) (operands : List (List ℕ)) (answer : RcStr Global) : Type 0 where
-  pub got : contents new.script ≡ append_known (contents old.script) (spelled_lines w.lines ++ application_line w.made op sort operands w.tables)
+pub record WroteApplied {S : Type 0} (contents : S → Option (List ℕ)) (old new : Writer S) (w : Written Expression) (op : PlainOp)
+    (sort : List ℕ) (operands : List (List ℕ)) (answer : RcStr Global) : Type 0 where
+  pub got :
+      contents new.script ≡ append_known (contents old.script) (spelled_lines w.lines ++ application_line w.made op sort operands w.tables)
   pub named : rc_str_bytes answer ≡ next_term w.tables
   pub names : HasTables new w.tables

@@ -5,6 +5,7 @@ use Rattle.std.specs.Rc.{rc_str_bytes}
 use Rattle.std.specs.Result.{is_err}
 use Rattle.std.specs.declared.alloc.Global.{Global}
 use Rattle.std.specs.declared.rc.RcStr.{RcStr}
+use Rattle.law_theorem.specs.Headline.{Headline}
 use Rattle.law_terms.specs.Plain.{PlainTerm}
 use Rattle.law_terms.specs.TypeValues.{Enums}
 use Rattle.law_terms.specs.Nodes.{Meaning}
@@ -15,7 +16,7 @@ use Rattle.law_lines.specs.Lines.{Call, Encoding, Written, after_call, beginning
 use Rattle.law_lines.specs.Spelling.{spelled}
 use Rattle.law_lines.specs.Text as stated
 use Rattle.law_theorem.specs.Fits.{Stages, Fits, encoding_of, stages_after}
-use Rattle.law_theorem.specs.WellWritten.{IsWellWritten, most_for_call}
+use Rattle.law_theorem.specs.WellWritten.{IsWellWritten, most_for_call, most_for_terms}
 use Rattle.smt_nodes.specs.declared.interner.Interner.{Interner}
 use Rattle.smt_spelling.specs.Names.{enums_under, levels_under, nodes_under, texts_under, AreTables, KeepLevels, KeepTables}
 use Rattle.smt_spelling.specs.NodeTexts.{AreTexts, HasName, HasNoTexts}
@@ -85,10 +86,25 @@ OfReceived before after P = (old new : List ℕ) → before ≡ Some old → aft
 abbrev pub OfNames : {S : Type 0} → Encoder S → (Tables → Type 0) → Type 0
 OfNames {S} e P = (s : Tables) × HasNames e s × P s
 
+-- A call put bytes that have P, where the sink tells its bytes before and behind it.
+abbrev pub Gave : {S : Type 0} → (S → Option (List ℕ)) → (old new : Encoder S) → (List ℕ → Type 0) → Type 0
+Gave contents old new P = OfReceived (contents (sink_of old)) (contents (sink_of new)) P
+
+-- These bytes mean these terms, by the names that the encoder has then.
+abbrev pub MeansTerms : {S : Type 0} → (old new : Encoder S) → List PlainTerm → List ℕ → Type 0
+MeansTerms old new ts bytes = OfNames new (λ names. Headline (enums_in old) names ts bytes)
+
+-- These bytes are a script that is written well, whose assertions are those of these terms, by the names that the encoder has then.
+abbrev pub AreWellWritten : {S : Type 0} → (old new : Encoder S) → List PlainTerm → List ℕ → Type 0
+AreWellWritten old new ts bytes =
+    OfNames new (λ names. IsWellWritten (enums_in old) bytes ts names (1 + most_for_terms ts))
+
 -- ---- what a call leaves that enters names
 
--- The sink got the lines that are stated over the tables before, the answer is the text that is stated, and the encoder has the names that are stated then.
-pub record PutStated {S : Type 0} (contents : S → Option (List ℕ)) (old new : Encoder S) (w : Written Expression) (answer : RcStr Global) : Type 0 where
+-- The sink got the lines that are stated over the tables before, the answer is the text that is stated, and the encoder has the names that
+-- are stated then.
+pub record PutStated {S : Type 0} (contents : S → Option (List ℕ)) (old new : Encoder S) (w : Written Expression) (answer : RcStr Global) :
+    Type 0 where
   pub got : contents (sink_of new) ≡ append_known (contents (sink_of old)) (spelled_lines w.lines)
   pub made : rc_str_bytes answer ≡ spelled w.made
   pub names : HasTexts new w.tables
@@ -124,13 +140,16 @@ pub record FitsEncoder {S : Type 0} (e : Encoder S) (text : List ℕ) (x : Stage
 -- On Ok a call keeps that the text, with what the sink got in the call behind it, and the terms, with those of the call, fit the encoder.
 abbrev pub CallKeepsFit : {S T E : Type 0} → (S → Option (List ℕ)) → (old new : Encoder S) → Call → Result T E → Type 0
 CallKeepsFit contents old new c result = (text : List ℕ) (x : Stages) → FitsEncoder old text x
-    → OnOk result (OfReceived (contents (sink_of old)) (contents (sink_of new)) (λ bytes. FitsEncoder new (text ++ bytes) (stages_after (enums_in old) c x)))
+    → OnOk result (OfReceived (contents (sink_of old)) (contents (sink_of new))
+    (λ bytes. FitsEncoder new (text ++ bytes) (stages_after (enums_in old) c x)))
 
 -- So does it keep that the text is well written, with the commands of the call beside those that there were at most.
 abbrev pub CallKeepsWellWritten : {S T E : Type 0} → (S → Option (List ℕ)) → (old new : Encoder S) → Call → Result T E → Type 0
-CallKeepsWellWritten contents old new c result = (text : List ℕ) (x : Stages) (most : ℕ) → FitsEncoder old text x → IsWellWritten (enums_in old) text x.now.terms x.now.tables most
-    → OnOk result (OfReceived (contents (sink_of old)) (contents (sink_of new)) (λ bytes.
-    IsWellWritten (enums_in old) (text ++ bytes) (stages_after (enums_in old) c x).now.terms (stages_after (enums_in old) c x).now.tables (most + (length (beginning x.begun) + most_for_call c))))
+CallKeepsWellWritten contents old new c result =
+    (text : List ℕ) (x : Stages) (most : ℕ) → FitsEncoder old text x → IsWellWritten (enums_in old) text x.now.terms x.now.tables most →
+    OnOk result (OfReceived (contents (sink_of old)) (contents (sink_of new)) (λ bytes.
+    IsWellWritten (enums_in old) (text ++ bytes) (stages_after (enums_in old) c x).now.terms (stages_after (enums_in old) c x).now.tables
+    (most + (length (beginning x.begun) + most_for_call c))))
 
 -- ---- what a call of `encode` leaves of a fresh encoder
 

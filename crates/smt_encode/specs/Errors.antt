@@ -2,9 +2,12 @@
 use Rattle.smt_script.specs.declared.sink.SinkError.{SinkError}
 use Rattle.smt_script.specs.declared.sink.SinkError.TheVariants.{Fault, Memory as NoRoom}
 use Rattle.smt_encode.specs.declared.error.EncodeError.{EncodeError}
-use Rattle.smt_encode.specs.declared.error.EncodeError.TheVariants.{Io, EmptyEnum, EncodeStringFailed, EncodePatternFailed, EnumMissingMember, ExpectRecord, MalformedRecordGet, Memory, MissingTypeEncoding, RecordMissingAttr}
+use Rattle.smt_encode.specs.declared.error.EncodeError.TheVariants.{Io, EmptyEnum, EncodeStringFailed, EncodePatternFailed}
+use Rattle.smt_encode.specs.declared.error.EncodeError.TheVariants.{EnumMissingMember, ExpectRecord, MalformedRecordGet, Memory}
+use Rattle.smt_encode.specs.declared.error.EncodeError.TheVariants.{MissingTypeEncoding, RecordMissingAttr}
 use Rattle.smt_spelling.specs.declared.error.TextError.{TextError}
-use Rattle.smt_spelling.specs.declared.error.TextError.TheVariants.{MissingMember, StringFailed, PatternFailed, EmptyEnum as NoMembers, Memory as NoMemory}
+use Rattle.smt_spelling.specs.declared.error.TextError.TheVariants.{MissingMember, StringFailed, PatternFailed, EmptyEnum as NoMembers}
+use Rattle.smt_spelling.specs.declared.error.TextError.TheVariants.{Memory as NoMemory}
 use Rattle.smt_spelling.specs.declared.selector_error.SelectorError.{SelectorError}
 use Rattle.smt_spelling.specs.declared.selector_error.SelectorError.TheVariants.{Lacks, NoOperand, NoRecord, Unnamed, Memory as NoSpace}
 use Rattle.smt_encode.specs.declared.error.WriteError.{WriteError}

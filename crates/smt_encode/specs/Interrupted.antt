@@ -21,7 +21,8 @@ may_cut e = false
 -- A call stopped with this error behind a text. The sink got a first part of the first of the lines that are stated for the call: so whole
 -- comments and commands, and at most one more that is cut. With these lines behind it the text is a script. After an error that cuts no
 -- line the sink got all of them.
-pub record Interrupted {S : Type 0} (contents : S → Option (List ℕ)) (old new : Encoder S) (text : List ℕ) (stated : List Line) (e : EncodeError) : Type 0 where
+pub record Interrupted {S : Type 0} (contents : S → Option (List ℕ)) (old new : Encoder S) (text : List ℕ) (stated : List Line)
+    (e : EncodeError) : Type 0 where
   pub lines : List Line
   pub rest : List Line
   pub first : lines ++ rest ≡ stated
@@ -32,4 +33,6 @@ pub record Interrupted {S : Type 0} (contents : S → Option (List ℕ)) (old ne
 
 -- After an error of a call, wherever a text and the terms of all levels fitted the encoder, the call was interrupted so.
 abbrev pub IsInterrupted : {S T : Type 0} → (S → Option (List ℕ)) → (old new : Encoder S) → Call → Result T EncodeError → Type 0
-IsInterrupted contents old new c result = (text : List ℕ) (x : Stages) → FitsEncoder old text x → IfErr result (Interrupted contents old new text (lines_of_call (enums_in old) c (encoding_of x)))
+IsInterrupted contents old new c result =
+    (text : List ℕ) (x : Stages) → FitsEncoder old text x →
+    IfErr result (Interrupted contents old new text (lines_of_call (enums_in old) c (encoding_of x)))

@@ -3,14 +3,17 @@ ghost use Rattle.std.specs.Prelude.{◌≡◌, ◌++◌, ◌||◌, List, [], IfO
 ghost use Rattle.std.specs.Rc.{rc_str_bytes};
 ghost use Rattle.std.specs.Result.{is_err};
 ghost use Rattle.std.specs.String.{string_bytes};
-ghost use Rattle.law_texts.specs.LineTexts.{comment_text, declare_const_text, declare_datatype_text, define_fun_text};
+ghost use Rattle.law_texts.specs.LineTexts.{comment_text, declare_const_text};
+ghost use Rattle.law_texts.specs.LineTexts.{declare_datatype_text, define_fun_text};
 ghost use Rattle.law_texts.specs.Quoting.{quoted_id};
-ghost use Rattle.law_texts.specs.SharedTexts.{texts};
-ghost use Rattle.smt_encode.specs.Alone.{encoded, fault_of_entity, fault_of_type, line_of_entity, name_of_entity, record_body_text, set_body_text, sorts_given};
+ghost use Rattle.law_texts.specs.SharedTexts.{GivesText, texts};
+ghost use Rattle.smt_encode.specs.Alone.{encoded, fault_of_entity, fault_of_type, line_of_entity};
+ghost use Rattle.smt_encode.specs.Alone.{name_of_entity, record_body_text};
+ghost use Rattle.smt_encode.specs.Alone.{set_body_text, sorts_given};
 ghost use Rattle.smt_spelling.specs.NodeEntries.{entry_name};
-ghost use Rattle.smt_types.specs.Entities.{bytes_of_id, bytes_of_type};
-ghost use Rattle.smt_types.specs.ExtensionView.{plain_kind};
-ghost use Rattle.smt_types.specs.Pairs.{attributes_in};
+ghost use Rattle.smt_term.specs.Entities.{bytes_of_id, bytes_of_type};
+ghost use Rattle.smt_term.specs.ExtensionView.{plain_kind};
+ghost use Rattle.smt_term.specs.Pairs.{attributes_in};
 ghost use Rattle.law_lines.specs.Line.{spelled_lines};
 ghost use Rattle.law_texts.specs.Reading.{Expression};
 ghost use Rattle.law_lines.specs.EntryNames.{kind_name};
@@ -68,7 +71,8 @@ fn attributes_and_sorts(
 
 /// `(SORT x y)`: a record of this sort by its fields, the sort alone where the joined fields have no character.
 fn record_body(alloc: Global, sort: &str, fields: &[Text]) -> Result<String, AllocError>
-    ensures { IfOk result (λ body. string_bytes body ≡ record_body_text sort.now (texts fields.now)) }
+    ensures { IfOk result
+        (λ body. string_bytes body ≡ record_body_text sort.now (texts fields.now)) }
 {
     let mut joined = String::new(alloc);
     push_spaced(&mut joined, fields)?;
@@ -84,8 +88,10 @@ impl<S: Sink> Writer<'_, S> {
 
     /// Puts the datatype of these constructors.
     pub(crate) fn put_type(&mut self, id: &str, mks: &[Text]) -> Result<Text, WriteError>
-        ensures lines { IfOk result (PutUnder S.contents self.old.script self.new.script id.now (declare_datatype_text id.now [] (texts mks.now))) }
-        ensures part { OnErr result (AppendsPart (S.contents self.old.script) (S.contents self.new.script) (declare_datatype_text id.now [] (texts mks.now))) }
+        ensures lines { IfOk result (PutUnder S.contents self.old.script self.new.script id.now
+            (declare_datatype_text id.now [] (texts mks.now))) }
+        ensures part { OnErr result (AppendsPart (S.contents self.old.script)
+            (S.contents self.new.script) (declare_datatype_text id.now [] (texts mks.now))) }
         ensures alone { PutsAlone S.faults S.place None self.old self.new result }
     {
         let name = Text::from_str(self.alloc, id)?;
@@ -95,10 +101,17 @@ impl<S: Sink> Writer<'_, S> {
 
     /// Puts the comment and the datatype of an entity type under the name that is next.
     pub(crate) fn put_entity_type(&mut self, ety: &EntityType) -> Result<Text, WriteError>
-        ensures lines { (s : Tables) → AreTables self.old.names s → let members = members_of (enums_under self.old.names) (bytes_of_type ety.now) in
-            IfOk result (PutUnder S.contents self.old.script self.new.script (next_entity s) (spelled_lines (entity_lines members (bytes_of_type ety.now) (next_entity s)))) }
-        ensures part { (s : Tables) → AreTables self.old.names s → OnErr result (AppendsPart (S.contents self.old.script) (S.contents self.new.script) (spelled_lines (entity_lines (members_of (enums_under self.old.names) (bytes_of_type ety.now)) (bytes_of_type ety.now) (next_entity s)))) }
-        ensures alone { PutsAlone S.faults S.place (fault_of_type (enums_under self.old.names) ety.now) self.old self.new result }
+        ensures lines { (s : Tables) → AreTables self.old.names s → let members = members_of
+            (enums_under self.old.names) (bytes_of_type ety.now) in
+            IfOk result (PutUnder S.contents self.old.script self.new.script (next_entity s)
+            (spelled_lines (entity_lines members (bytes_of_type ety.now) (next_entity s)))) }
+        ensures part { (s : Tables) → AreTables self.old.names s →
+            OnErr result (AppendsPart (S.contents self.old.script) (S.contents self.new.script)
+            (spelled_lines (entity_lines
+            (members_of (enums_under self.old.names) (bytes_of_type ety.now))
+            (bytes_of_type ety.now) (next_entity s)))) }
+        ensures alone { PutsAlone S.faults S.place
+            (fault_of_type (enums_under self.old.names) ety.now) self.old self.new result }
     {
         let name = self.names.next_entity()?;
         let members = self.names.enums().members_of(ety);
@@ -109,8 +122,12 @@ impl<S: Sink> Writer<'_, S> {
 
     /// Puts the datatype of an extension type under its own name.
     pub(crate) fn put_ext_type(&mut self, xty: ExtType) -> Result<Text, WriteError>
-        ensures lines { IfOk result (PutUnder S.contents self.old.script self.new.script (kind_name (plain_kind xty)) (spelled_lines (kind_lines (plain_kind xty) (kind_name (plain_kind xty))))) }
-        ensures part { OnErr result (AppendsPart (S.contents self.old.script) (S.contents self.new.script) (spelled_lines (kind_lines (plain_kind xty) (kind_name (plain_kind xty))))) }
+        ensures lines { IfOk result (PutUnder S.contents self.old.script self.new.script
+            (kind_name (plain_kind xty))
+            (spelled_lines (kind_lines (plain_kind xty) (kind_name (plain_kind xty))))) }
+        ensures part { OnErr result (AppendsPart (S.contents self.old.script)
+            (S.contents self.new.script)
+            (spelled_lines (kind_lines (plain_kind xty) (kind_name (plain_kind xty))))) }
         ensures alone { PutsAlone S.faults S.place None self.old self.new result }
     {
         let constructors = extension_constructors(self.alloc, xty)?;
@@ -123,9 +140,14 @@ impl<S: Sink> Writer<'_, S> {
         attributes: &[Attr],
         sorts: &[Text],
     ) -> Result<Text, WriteError>
-        ensures lines { (s : Tables) (es : List Expression) → AreTables self.old.names s → AreSpelled es sorts.now →
-            IfOk result (PutUnder S.contents self.old.script self.new.script (next_record s) (spelled_lines (record_lines (texts attributes.now) (next_record s) es))) }
-        ensures part { (s : Tables) (es : List Expression) → AreTables self.old.names s → AreSpelled es sorts.now → OnErr result (AppendsPart (S.contents self.old.script) (S.contents self.new.script) (spelled_lines (record_lines (texts attributes.now) (next_record s) es))) }
+        ensures lines { (s : Tables) (es : List Expression) → AreTables self.old.names s →
+            AreSpelled es sorts.now →
+            IfOk result (PutUnder S.contents self.old.script self.new.script (next_record s)
+            (spelled_lines (record_lines (texts attributes.now) (next_record s) es))) }
+        ensures part { (s : Tables) (es : List Expression) → AreTables self.old.names s →
+            AreSpelled es sorts.now →
+            OnErr result (AppendsPart (S.contents self.old.script) (S.contents self.new.script)
+            (spelled_lines (record_lines (texts attributes.now) (next_record s) es))) }
         ensures alone { PutsAlone S.faults S.place None self.old self.new result }
     {
         let name = self.names.next_record()?;
@@ -140,7 +162,9 @@ impl<S: Sink> Writer<'_, S> {
         rty: &[(Attr, Text)],
     ) -> Result<Text, WriteError>
         ensures lines { (s : Tables) → AreTables self.old.names s →
-            IfOk result (PutUnder S.contents self.old.script self.new.script (next_record s) (spelled_lines (record_lines (attributes_in rty.now) (next_record s) (sorts_given rty.now)))) }
+            IfOk result (PutUnder S.contents self.old.script self.new.script (next_record s)
+            (spelled_lines
+            (record_lines (attributes_in rty.now) (next_record s) (sorts_given rty.now)))) }
         ensures alone { PutsAlone S.faults S.place None self.old self.new result }
     {
         let (attributes, sorts) = attributes_and_sorts(self.alloc, rty)?;
@@ -150,7 +174,9 @@ impl<S: Sink> Writer<'_, S> {
     /// Puts the declaration of a variable by its sort, behind its id in a comment, under the name that is next.
     pub(crate) fn put_var(&mut self, v: &TermVar, ty_enc: &str) -> Result<Text, WriteError>
         ensures lines { (s : Tables) → AreTables self.old.names s →
-            IfOk result (PutUnder S.contents self.old.script self.new.script (next_term s) (comment_text (quoted_id (rc_str_bytes v.now.id)) ++ declare_const_text (next_term s) ty_enc.now)) }
+            IfOk result (PutUnder S.contents self.old.script self.new.script (next_term s)
+            (comment_text (quoted_id (rc_str_bytes v.now.id))
+            ++ declare_const_text (next_term s) ty_enc.now)) }
         ensures alone { PutsAlone S.faults S.place None self.old self.new result }
     {
         let comment = quote_id(self.alloc, v.id.as_str())?;
@@ -160,7 +186,8 @@ impl<S: Sink> Writer<'_, S> {
     /// Puts the definition of a term by its sort and its body under the name that is next.
     pub(crate) fn put_term(&mut self, ty_enc: &str, t_enc: &str) -> Result<Text, WriteError>
         ensures lines { (s : Tables) → AreTables self.old.names s →
-            IfOk result (PutUnder S.contents self.old.script self.new.script (next_term s) (define_fun_text (next_term s) [] ty_enc.now t_enc.now)) }
+            IfOk result (PutUnder S.contents self.old.script self.new.script (next_term s)
+            (define_fun_text (next_term s) [] ty_enc.now t_enc.now)) }
         ensures alone { PutsAlone S.faults S.place None self.old self.new result }
     {
         let name = self.names.next_term()?;
@@ -171,7 +198,9 @@ impl<S: Sink> Writer<'_, S> {
     /// Puts the definition of a set by its sort and its elements under the name that is next.
     pub(crate) fn put_set(&mut self, ty_enc: &str, t_encs: &[Text]) -> Result<Text, WriteError>
         ensures lines { (s : Tables) → AreTables self.old.names s →
-            IfOk result (PutUnder S.contents self.old.script self.new.script (next_term s) (define_fun_text (next_term s) [] ty_enc.now (set_body_text ty_enc.now (texts t_encs.now)))) }
+            IfOk result (PutUnder S.contents self.old.script self.new.script (next_term s)
+            (define_fun_text (next_term s) [] ty_enc.now
+            (set_body_text ty_enc.now (texts t_encs.now)))) }
         ensures alone { PutsAlone S.faults S.place None self.old self.new result }
     {
         let elements = t_encs.to_vec(self.alloc)?;
@@ -182,7 +211,9 @@ impl<S: Sink> Writer<'_, S> {
     /// Puts the definition of a record by its sort and its fields under the name that is next.
     pub(crate) fn put_record(&mut self, ty_enc: &str, t_encs: &[Text]) -> Result<Text, WriteError>
         ensures lines { (s : Tables) → AreTables self.old.names s →
-            IfOk result (PutUnder S.contents self.old.script self.new.script (next_term s) (define_fun_text (next_term s) [] ty_enc.now (record_body_text ty_enc.now (texts t_encs.now)))) }
+            IfOk result (PutUnder S.contents self.old.script self.new.script (next_term s)
+            (define_fun_text (next_term s) [] ty_enc.now
+            (record_body_text ty_enc.now (texts t_encs.now)))) }
         ensures alone { PutsAlone S.faults S.place None self.old self.new result }
     {
         let body = record_body(self.alloc, ty_enc, t_encs)?;
@@ -196,9 +227,13 @@ impl<S: Sink> Writer<'_, S> {
         ty_enc: &str,
         entity: &EntityUID,
     ) -> Result<Text, WriteError>
-        ensures lines { (s : Tables) → AreTables self.old.names s → let members = members_of (enums_under self.old.names) (bytes_of_type entity.now.ety) in
-            IfOk result (PutUnder S.contents self.old.script self.new.script (name_of_entity members (bytes_of_id entity.now.id) ty_enc.now s) (line_of_entity members (bytes_of_id entity.now.id) ty_enc.now s)) }
-        ensures alone { PutsAlone S.faults S.place (fault_of_entity (enums_under self.old.names) entity.now) self.old self.new result }
+        ensures lines { (s : Tables) → AreTables self.old.names s → let members = members_of
+            (enums_under self.old.names) (bytes_of_type entity.now.ety) in
+            IfOk result (PutUnder S.contents self.old.script self.new.script
+            (name_of_entity members (bytes_of_id entity.now.id) ty_enc.now s)
+            (line_of_entity members (bytes_of_id entity.now.id) ty_enc.now s)) }
+        ensures alone { PutsAlone S.faults S.place
+            (fault_of_entity (enums_under self.old.names) entity.now) self.old self.new result }
     {
         let members = self.names.enums().members_of(&entity.ety);
         let entry = entity_entry(self.alloc, members, entity, ty_enc)?;
@@ -207,9 +242,14 @@ impl<S: Sink> Writer<'_, S> {
 
     /// Puts the lines of an entry under its name: its own, or the one that is next.
     pub(crate) fn put_entry(&mut self, sort: &str, entry: &Entry) -> Result<Text, WriteError>
-        ensures lines { (s : Tables) (p : PlainEntry) → AreTables self.old.names s → SaysEntry p entry.now →
-            IfOk result (PutUnder S.contents self.old.script self.new.script (entry_name p s) (entry_bytes entry.now (entry_name p s) sort.now)) }
-        ensures part { (s : Tables) (p : PlainEntry) → AreTables self.old.names s → SaysEntry p entry.now → OnErr result (AppendsPart (S.contents self.old.script) (S.contents self.new.script) (entry_bytes entry.now (entry_name p s) sort.now)) }
+        ensures lines { (s : Tables) (p : PlainEntry) → AreTables self.old.names s →
+            SaysEntry p entry.now →
+            IfOk result (PutUnder S.contents self.old.script self.new.script (entry_name p s)
+            (entry_bytes entry.now (entry_name p s) sort.now)) }
+        ensures part { (s : Tables) (p : PlainEntry) → AreTables self.old.names s →
+            SaysEntry p entry.now →
+            OnErr result (AppendsPart (S.contents self.old.script) (S.contents self.new.script)
+            (entry_bytes entry.now (entry_name p s) sort.now)) }
         ensures alone { PutsAlone S.faults S.place None self.old self.new result }
     {
         let name = self.name_for(entry)?;
@@ -219,7 +259,8 @@ impl<S: Sink> Writer<'_, S> {
 
     /// The name of an entry.
     fn name_for(&self, entry: &Entry) -> Result<Text, AllocError>
-        ensures { (s : Tables) (p : PlainEntry) → AreTables self.now.names s → SaysEntry p entry.now → IfOk result (λ name. rc_str_bytes name ≡ entry_name p s) }
+        ensures { (s : Tables) (p : PlainEntry) → AreTables self.now.names s →
+            SaysEntry p entry.now → GivesText result (entry_name p s) }
     {
         match entry {
             Entry::Constant(_) | Entry::Body(_) => self.names.next_term(),

@@ -7,7 +7,8 @@ use crate::encoder::Encoder;
 use crate::writer::Writer;
 
 impl<'a, S> Encoder<'a, S> {
-    ghost use Rattle.smt_encode.specs.Encoded.{enums_in, is_spent, nodes_in, sink_of, texts_in, FitsEncoder, HasEncoding};
+    ghost use Rattle.smt_encode.specs.Encoded.{enums_in, is_spent, nodes_in, sink_of, texts_in};
+    ghost use Rattle.smt_encode.specs.Encoded.{FitsEncoder, HasEncoding};
 
     /// The encoder without its sink, which goes on over the same or another one by `attach`, and the sink with what it got.
     /// Takes no memory, and puts nothing.
@@ -28,7 +29,8 @@ impl<'a, S> Encoder<'a, S> {
     /// ```
     pub fn detach(self) -> (Encoder<'a, ()>, S)
         ensures stands { (x : Encoding) → HasEncoding self.entry x → HasEncoding result.0 x }
-        ensures fits { (text : List ℕ) (x : Stages) → FitsEncoder self.entry text x → FitsEncoder result.0 text x }
+        ensures fits { (text : List ℕ) (x : Stages) → FitsEncoder self.entry text x →
+            FitsEncoder result.0 text x }
         ensures nodes { nodes_in result.0 ≡ nodes_in self.entry }
         ensures texts { texts_in result.0 ≡ texts_in self.entry }
         ensures enums { enums_in result.0 ≡ enums_in self.entry }
@@ -62,13 +64,15 @@ impl<'a, S> Encoder<'a, S> {
 }
 
 impl<'a> Encoder<'a, ()> {
-    ghost use Rattle.smt_encode.specs.Encoded.{enums_in, is_spent, nodes_in, sink_of, texts_in, FitsEncoder, HasEncoding};
+    ghost use Rattle.smt_encode.specs.Encoded.{enums_in, is_spent, nodes_in, sink_of, texts_in};
+    ghost use Rattle.smt_encode.specs.Encoded.{FitsEncoder, HasEncoding};
 
     /// The encoder over this sink, with the names, levels and state that it has. What it writes goes on behind what its sinks
     /// got before, so that these bytes joined are the text that it fits. Takes no memory, and puts nothing.
     pub fn attach<S>(self, script: S) -> Encoder<'a, S>
         ensures stands { (x : Encoding) → HasEncoding self.entry x → HasEncoding result x }
-        ensures fits { (text : List ℕ) (x : Stages) → FitsEncoder self.entry text x → FitsEncoder result text x }
+        ensures fits { (text : List ℕ) (x : Stages) → FitsEncoder self.entry text x →
+            FitsEncoder result text x }
         ensures nodes { nodes_in result ≡ nodes_in self.entry }
         ensures texts { texts_in result ≡ texts_in self.entry }
         ensures enums { enums_in result ≡ enums_in self.entry }

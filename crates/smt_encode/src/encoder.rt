@@ -1,38 +1,33 @@
 // The encoder, from terms to the lines of a script.
-ghost use Rattle.std.specs.Prelude.{ℕ, List, ◌≡◌, ◌≤◌, ◌+◌, ◌*◌, ◌++◌, ◌||◌, ◌∷◌, Bool, IsTrue, [], false, length, IfOk, None, OnOk, is_some, map, option_map};
+ghost use Rattle.std.specs.Prelude.{ℕ, List, ◌≡◌, ◌≤◌, ◌+◌, ◌*◌, Bool, IsTrue, []};
+ghost use Rattle.std.specs.Prelude.{false, length, IfOk, OnOk};
+ghost use Rattle.std.specs.Prelude.{option_map};
 ghost use Rattle.std.specs.Rc.{rc_str_bytes};
-ghost use Rattle.law_texts.specs.LineTexts.{comment_text, declare_const_text, declare_datatype_text, define_fun_text};
-ghost use Rattle.law_texts.specs.Quoting.{quoted_id};
 ghost use Rattle.law_texts.specs.SharedTexts.{texts};
-ghost use Rattle.smt_types.specs.Entities.{bytes_of_id, bytes_of_type};
-ghost use Rattle.smt_types.specs.Enums.{enums_of};
-ghost use Rattle.smt_types.specs.ExtensionView.{plain_kind};
-ghost use Rattle.smt_types.specs.Pairs.{attributes_in};
+ghost use Rattle.smt_term.specs.Enums.{enums_of};
 ghost use Rattle.law_terms.specs.Faults.{first_fault, term_fault, type_fault};
 ghost use Rattle.law_terms.specs.Plain.{PlainTerm, terms};
 ghost use Rattle.law_terms.specs.Typing.{AreBoolean, AreTyped};
 ghost use Rattle.law_terms.specs.Nodes.{FunctionMeaning, TermMeaning, TypeMeaning};
-ghost use Rattle.smt_term.specs.View.{plain_function, plain_op, plain_term, plain_type};
-ghost use Rattle.law_lines.specs.Line.{spelled_lines};
-ghost use Rattle.law_lines.specs.EntryNames.{kind_name};
-ghost use Rattle.law_lines.specs.LineForms.{entity_lines, kind_lines, record_lines};
+ghost use Rattle.smt_term.specs.View.{plain_function, plain_term, plain_terms};
+ghost use Rattle.smt_term.specs.View.{plain_type};
 ghost use Rattle.law_lines.specs.Lines as lines;
-ghost use Rattle.law_lines.specs.Lines.{encode_head, fresh, members_of, next_entity, next_record, next_term, EncodeCall, Encoding};
+ghost use Rattle.law_lines.specs.Lines.{fresh};
+ghost use Rattle.law_lines.specs.Lines.{EncodeCall, Encoding};
 ghost use Rattle.law_lines.specs.NameTables.{Tables, no_names};
 ghost use Rattle.law_lines.specs.Text.{names, text};
 ghost use Rattle.law_theorem.specs.Fits.{new_stages};
 ghost use Rattle.law_theorem.specs.Headline.{Headline};
-ghost use Rattle.law_theorem.specs.WellWritten.{IsWellWritten, most_for_terms};
 ghost use Rattle.smt_encode.specs.Complete.{AreWritten};
 ghost use Rattle.smt_spelling.specs.LookUps.{edges, look_ups, IsClosed};
-ghost use Rattle.smt_spelling.specs.NodeTexts.{HasNoTexts, StandFor};
+ghost use Rattle.smt_spelling.specs.NodeTexts.{StandFor};
 ghost use Rattle.smt_spelling.specs.NodeLines.{encode_meaning, meaning_fault};
 ghost use Rattle.smt_nodes.specs.Interned.{nodes_of, KeepsMeanings};
 ghost use Rattle.smt_nodes.specs.Subject.{meaning_of};
 ghost use Rattle.smt_nodes.specs.View.{places_of};
 ghost use Rattle.std.specs.List.{AllByRecursion};
-ghost use Rattle.smt_spelling.specs.SelectorFaults.{fault_of_selection};
 ghost use Rattle.smt_encode.specs.Refusals.{HasCause, IsComplete, TakesAttributes};
+ghost use Rattle.smt_encode.specs.Encoded.{AreWellWritten, Gave, MeansTerms};
 
 use crate::alone::settle;
 use crate::error::EncodeError;
@@ -40,9 +35,7 @@ use crate::writer::Writer;
 use smt_nodes::{Interner, NodeId, Subject};
 use smt_script::Sink;
 use smt_spelling::{Names, NodeNames, Steps};
-use smt_term::{
-    Attr, EntityType, EntityUID, EnumTable, ExtType, Op, Term, TermType, TermVar, Text, Uuf,
-};
+use smt_term::{EnumTable, Term, TermType, Text, Uuf};
 use std::alloc::Global;
 use std::marker::Brand;
 use std::sync::ledger::{Blank, Ledger};
@@ -66,7 +59,9 @@ pub struct Encoder<'a, S> {
 }
 
 impl<'a, S> Encoder<'a, S> {
-    ghost use Rattle.smt_encode.specs.Encoded.{enums_in, is_spent, nodes_in, sink_of, texts_in, FitsEncoder, HasEncoding, HasNames, HasTexts, IsFresh, IsNameOf};
+    ghost use Rattle.smt_encode.specs.Encoded.{enums_in, is_spent, nodes_in, sink_of, texts_in};
+    ghost use Rattle.smt_encode.specs.Encoded.{FitsEncoder, HasEncoding, HasNames};
+    ghost use Rattle.smt_encode.specs.Encoded.{HasTexts, IsFresh, IsNameOf};
 
     /// An encoder without names over this sink, which has written nothing yet. Takes no memory, and puts nothing.
     ///
@@ -124,27 +119,31 @@ impl<'a, S> Encoder<'a, S> {
     /// The name under which a term is declared or defined, None exactly where it has none. Takes no memory; it compares the
     /// term with one node after the other.
     pub fn name_of_term(&self, term: &Term) -> Option<&Text>
-        ensures { IsNameOf self.now (TermMeaning (plain_term term.now)) (option_map (λ name. rc_str_bytes name.now) result) }
+        ensures { IsNameOf self.now (TermMeaning (plain_term term.now))
+            (option_map (λ name. rc_str_bytes name.now) result) }
     {
         self.name_of_subject(Subject::Term(term))
     }
 
     /// The same of a type, whose name is that of its datatype.
     pub fn name_of_type(&self, ty: &TermType) -> Option<&Text>
-        ensures { IsNameOf self.now (TypeMeaning (plain_type ty.now)) (option_map (λ name. rc_str_bytes name.now) result) }
+        ensures { IsNameOf self.now (TypeMeaning (plain_type ty.now))
+            (option_map (λ name. rc_str_bytes name.now) result) }
     {
         self.name_of_subject(Subject::Type(ty))
     }
 
     /// The same of an uninterpreted function.
     pub fn name_of_uuf(&self, f: &Uuf) -> Option<&Text>
-        ensures { IsNameOf self.now (FunctionMeaning (plain_function f.now)) (option_map (λ name. rc_str_bytes name.now) result) }
+        ensures { IsNameOf self.now (FunctionMeaning (plain_function f.now))
+            (option_map (λ name. rc_str_bytes name.now) result) }
     {
         self.name_of_subject(Subject::Function(f))
     }
 
     fn name_of_subject(&self, subject: Subject<'_>) -> Option<&Text>
-        ensures { IsNameOf self.now (meaning_of subject.entry) (option_map (λ name. rc_str_bytes name.now) result) }
+        ensures { IsNameOf self.now (meaning_of subject.entry)
+            (option_map (λ name. rc_str_bytes name.now) result) }
     {
         self.writer.names.name_by::<Brand>(subject, Blank::new(1))
     }
@@ -191,7 +190,8 @@ impl<'a, S> Encoder<'a, S> {
 }
 
 impl<'a, S: Drop> Encoder<'a, S> {
-    ghost use Rattle.smt_encode.specs.Encoded.{enums_in, is_spent, nodes_in, texts_in, HasEncoding, HasNames, HasTexts};
+    ghost use Rattle.smt_encode.specs.Encoded.{enums_in, is_spent, nodes_in, texts_in, HasEncoding};
+    ghost use Rattle.smt_encode.specs.Encoded.{HasNames, HasTexts};
 
     /// The same encoder without its sink, for its names alone. Takes no memory.
     pub fn finalize(self) -> Encoder<'a, ()>
@@ -210,10 +210,12 @@ impl<'a, S: Drop> Encoder<'a, S> {
 }
 
 impl<S: Sink> Encoder<'_, S> {
-    ghost use Rattle.smt_encode.specs.Alone.{fault_of_entity, fault_of_type, line_of_entity, name_of_entity, record_body_text, set_body_text, sorts_given, NamesStay, PutUnder};
-    ghost use Rattle.smt_encode.specs.Applied.{begins_with_function, fault_of_application, selection_text, PutApplied};
     ghost use Rattle.smt_encode.specs.Interrupted.{IsInterrupted};
-    ghost use Rattle.smt_encode.specs.Encoded.{enums_in, is_spent, nodes_in, sink_of, texts_in, CallKeepsFit, CallKeepsWellWritten, HasNames, HasTexts, IsFresh, Keeps, LevelsStay, OfNames, OfReceived, PutScript, PutStated, PutsCall, Spends, SpendsOnError, WroteText};
+    ghost use Rattle.smt_encode.specs.Encoded.{enums_in, is_spent, nodes_in, sink_of, texts_in};
+    ghost use Rattle.smt_encode.specs.Encoded.{CallKeepsFit, CallKeepsWellWritten};
+    ghost use Rattle.smt_encode.specs.Encoded.{HasNames, HasTexts, IsFresh, Keeps, LevelsStay};
+    ghost use Rattle.smt_encode.specs.Encoded.{PutScript, PutStated};
+    ghost use Rattle.smt_encode.specs.Encoded.{PutsCall, Spends, SpendsOnError, WroteText};
 
     /// Asserts these terms: writes the declaration of the datatype `Option`, if no `push`, `encode` or `encode_nodes` has
     /// written it, what the terms need, and an assertion for each term, in order (commands of SMT-LIB 2.7, chapter 3, Scripts).
@@ -270,22 +272,41 @@ impl<S: Sink> Encoder<'_, S> {
     /// after `Io` and `Memory` at most one more that is cut (`stopped`). The names are those of some tables, so that
     /// `term_count` counts them (`names`).
     pub fn encode(&mut self, terms: &[Term]) -> Result<(), EncodeError>
-        ensures put { (s : Tables) → HasTexts self.old s → OnOk result (PutScript S.contents self.old self.new (lines.encode (enums_in self.old) (map plain_term terms.now) s)) }
-        ensures stated { IsFresh self.old → OnOk result (WroteText S.contents self.old self.new (map plain_term terms.now)) }
-        ensures headline { IsFresh self.old → AreBoolean (map plain_term terms.now) → OnOk result (OfReceived (S.contents (sink_of self.old)) (S.contents (sink_of self.new)) (λ bytes. OfNames self.new (λ names. Headline (enums_in self.old) names (map plain_term terms.now) bytes))) }
-        ensures well_written { IsFresh self.old → AreBoolean (map plain_term terms.now) → OnOk result (OfReceived (S.contents (sink_of self.old)) (S.contents (sink_of self.new)) (λ bytes. OfNames self.new (λ names. IsWellWritten (enums_in self.old) bytes (map plain_term terms.now) names (1 + most_for_terms (map plain_term terms.now))))) }
-        ensures models { AreBoolean (map plain_term terms.now) → OnOk result (Headline (enums_in self.old) (names (enums_in self.old) (map plain_term terms.now)) (map plain_term terms.now) (text (enums_in self.old) (map plain_term terms.now))) }
-        ensures called { PutsCall S.contents self.old self.new (EncodeCall (map plain_term terms.now)) result }
-        ensures fits { AreBoolean (map plain_term terms.now) → CallKeepsFit S.contents self.old self.new (EncodeCall (map plain_term terms.now)) result }
-        ensures keeps_well_written { AreBoolean (map plain_term terms.now) → CallKeepsWellWritten S.contents self.old self.new (EncodeCall (map plain_term terms.now)) result }
+        ensures put { (s : Tables) → HasTexts self.old s →
+            OnOk result (PutScript S.contents self.old self.new
+            (lines.encode (enums_in self.old) (plain_terms terms.now) s)) }
+        ensures stated { IsFresh self.old →
+            OnOk result (WroteText S.contents self.old self.new (plain_terms terms.now)) }
+        ensures headline { IsFresh self.old → AreBoolean (plain_terms terms.now) →
+            OnOk result (Gave S.contents self.old self.new
+            (MeansTerms self.old self.new (plain_terms terms.now))) }
+        ensures well_written { IsFresh self.old → AreBoolean (plain_terms terms.now) →
+            OnOk result (Gave S.contents self.old self.new
+            (AreWellWritten self.old self.new (plain_terms terms.now))) }
+        ensures models { AreBoolean (plain_terms terms.now) →
+            OnOk result (Headline (enums_in self.old)
+            (names (enums_in self.old) (plain_terms terms.now)) (plain_terms terms.now)
+            (text (enums_in self.old) (plain_terms terms.now))) }
+        ensures called { PutsCall S.contents self.old self.new (EncodeCall (plain_terms terms.now))
+            result }
+        ensures fits { AreBoolean (plain_terms terms.now) →
+            CallKeepsFit S.contents self.old self.new (EncodeCall (plain_terms terms.now)) result }
+        ensures keeps_well_written { AreBoolean (plain_terms terms.now) →
+            CallKeepsWellWritten S.contents self.old self.new (EncodeCall (plain_terms terms.now))
+            result }
         ensures spent { Spends self.old self.new result }
-        ensures refused { HasCause (S.faults (sink_of self.old)) (S.faults (sink_of self.new)) (first_fault (enums_in self.old) (map plain_term terms.now)) result }
-        ensures takes { AreTyped (map plain_term terms.now) → TakesAttributes result }
-        ensures complete { IsComplete (is_spent self.old) (S.faults (sink_of self.old)) (S.faults (sink_of self.new)) (first_fault (enums_in self.old) (map plain_term terms.now)) result }
-        ensures stopped { AreTyped (map plain_term terms.now) → IsInterrupted S.contents self.old self.new (EncodeCall (map plain_term terms.now)) result }
+        ensures refused { HasCause (S.faults (sink_of self.old)) (S.faults (sink_of self.new))
+            (first_fault (enums_in self.old) (plain_terms terms.now)) result }
+        ensures takes { AreTyped (plain_terms terms.now) → TakesAttributes result }
+        ensures complete { IsComplete (is_spent self.old) (S.faults (sink_of self.old))
+            (S.faults (sink_of self.new)) (first_fault (enums_in self.old) (plain_terms terms.now))
+            result }
+        ensures stopped { AreTyped (plain_terms terms.now) →
+            IsInterrupted S.contents self.old self.new (EncodeCall (plain_terms terms.now)) result }
         ensures names { (s : Tables) → HasTexts self.old s → (t : Tables) × HasTexts self.new t }
         ensures numbers { KeepsMeanings (nodes_in self.old) (nodes_in self.new) }
-        ensures written { OnOk result (AreWritten (nodes_in self.new) (texts_in self.new) (map plain_term terms.now)) }
+        ensures written { OnOk result
+            (AreWritten (nodes_in self.new) (texts_in self.new) (plain_terms terms.now)) }
         ensures kept { Keeps S.faults S.place self.old self.new }
     {
         if self.failed {
@@ -313,23 +334,51 @@ impl<S: Sink> Encoder<'_, S> {
         steps: &mut Steps<L>,
     ) -> Result<(), EncodeError>
         requires stand { (ts : List PlainTerm) × StandFor (nodes_in self.old) ids.now ts }
-        ensures put { (ts : List PlainTerm) (s : Tables) → StandFor (nodes_in self.old) ids.now ts → HasTexts self.old s → OnOk result (PutScript S.contents self.old self.new (lines.encode (enums_in self.old) ts s)) }
-        ensures stated { (ts : List PlainTerm) → StandFor (nodes_in self.old) ids.now ts → IsFresh self.old → OnOk result (WroteText S.contents self.old self.new ts) }
-        ensures headline { (ts : List PlainTerm) → StandFor (nodes_in self.old) ids.now ts → IsFresh self.old → AreBoolean ts → OnOk result (OfReceived (S.contents (sink_of self.old)) (S.contents (sink_of self.new)) (λ bytes. OfNames self.new (λ names. Headline (enums_in self.old) names ts bytes))) }
-        ensures well_written { (ts : List PlainTerm) → StandFor (nodes_in self.old) ids.now ts → IsFresh self.old → AreBoolean ts → OnOk result (OfReceived (S.contents (sink_of self.old)) (S.contents (sink_of self.new)) (λ bytes. OfNames self.new (λ names. IsWellWritten (enums_in self.old) bytes ts names (1 + most_for_terms ts)))) }
-        ensures models { (ts : List PlainTerm) → StandFor (nodes_in self.old) ids.now ts → AreBoolean ts → OnOk result (Headline (enums_in self.old) (names (enums_in self.old) ts) ts (text (enums_in self.old) ts)) }
-        ensures called { (ts : List PlainTerm) → StandFor (nodes_in self.old) ids.now ts → PutsCall S.contents self.old self.new (EncodeCall ts) result }
-        ensures fits { (ts : List PlainTerm) → StandFor (nodes_in self.old) ids.now ts → AreBoolean ts → CallKeepsFit S.contents self.old self.new (EncodeCall ts) result }
-        ensures keeps_well_written { (ts : List PlainTerm) → StandFor (nodes_in self.old) ids.now ts → AreBoolean ts → CallKeepsWellWritten S.contents self.old self.new (EncodeCall ts) result }
+        ensures put { (ts : List PlainTerm) (s : Tables) → StandFor (nodes_in self.old) ids.now ts →
+            HasTexts self.old s →
+            OnOk result
+            (PutScript S.contents self.old self.new (lines.encode (enums_in self.old) ts s)) }
+        ensures stated { (ts : List PlainTerm) → StandFor (nodes_in self.old) ids.now ts →
+            IsFresh self.old → OnOk result (WroteText S.contents self.old self.new ts) }
+        ensures headline { (ts : List PlainTerm) → StandFor (nodes_in self.old) ids.now ts →
+            IsFresh self.old → AreBoolean ts →
+            OnOk result (Gave S.contents self.old self.new (MeansTerms self.old self.new ts)) }
+        ensures well_written { (ts : List PlainTerm) → StandFor (nodes_in self.old) ids.now ts →
+            IsFresh self.old → AreBoolean ts →
+            OnOk result (Gave S.contents self.old self.new (AreWellWritten self.old self.new ts)) }
+        ensures models { (ts : List PlainTerm) → StandFor (nodes_in self.old) ids.now ts →
+            AreBoolean ts →
+            OnOk result (Headline (enums_in self.old) (names (enums_in self.old) ts) ts
+            (text (enums_in self.old) ts)) }
+        ensures called { (ts : List PlainTerm) → StandFor (nodes_in self.old) ids.now ts →
+            PutsCall S.contents self.old self.new (EncodeCall ts) result }
+        ensures fits { (ts : List PlainTerm) → StandFor (nodes_in self.old) ids.now ts →
+            AreBoolean ts → CallKeepsFit S.contents self.old self.new (EncodeCall ts) result }
+        ensures keeps_well_written { (ts : List PlainTerm) →
+            StandFor (nodes_in self.old) ids.now ts → AreBoolean ts →
+            CallKeepsWellWritten S.contents self.old self.new (EncodeCall ts) result }
         ensures spent { Spends self.old self.new result }
-        ensures takes { (ts : List PlainTerm) → StandFor (nodes_in self.old) ids.now ts → AreTyped ts → TakesAttributes result }
-        ensures refused { (ts : List PlainTerm) → StandFor (nodes_in self.old) ids.now ts → HasCause (S.faults (sink_of self.old)) (S.faults (sink_of self.new)) (first_fault (enums_in self.old) ts) result }
-        ensures complete { (ts : List PlainTerm) → StandFor (nodes_in self.old) ids.now ts → IsComplete (is_spent self.old) (S.faults (sink_of self.old)) (S.faults (sink_of self.new)) (first_fault (enums_in self.old) ts) result }
-        ensures stopped { (ts : List PlainTerm) → StandFor (nodes_in self.old) ids.now ts → AreTyped ts → IsInterrupted S.contents self.old self.new (EncodeCall ts) result }
+        ensures takes { (ts : List PlainTerm) → StandFor (nodes_in self.old) ids.now ts →
+            AreTyped ts → TakesAttributes result }
+        ensures refused { (ts : List PlainTerm) → StandFor (nodes_in self.old) ids.now ts →
+            HasCause (S.faults (sink_of self.old)) (S.faults (sink_of self.new))
+            (first_fault (enums_in self.old) ts) result }
+        ensures complete { (ts : List PlainTerm) → StandFor (nodes_in self.old) ids.now ts →
+            IsComplete (is_spent self.old) (S.faults (sink_of self.old))
+            (S.faults (sink_of self.new)) (first_fault (enums_in self.old) ts) result }
+        ensures stopped { (ts : List PlainTerm) → StandFor (nodes_in self.old) ids.now ts →
+            AreTyped ts → IsInterrupted S.contents self.old self.new (EncodeCall ts) result }
         ensures names { (s : Tables) → HasTexts self.old s → (t : Tables) × HasTexts self.new t }
-        ensures written { (ts : List PlainTerm) → StandFor (nodes_in self.old) ids.now ts → OnOk result (AreWritten (nodes_in self.new) (texts_in self.new) ts) }
-        ensures steps { (has : ℕ → Bool) → IsClosed (nodes_of (nodes_in self.old)) has → AllByRecursion (λ place. IsTrue (has place)) (places_of ids.now) → OnOk result (steps.new ≤ steps.old + length ids.now + look_ups has (nodes_of (nodes_in self.old))) }
-        ensures by_edges { (has : ℕ → Bool) → IsClosed (nodes_of (nodes_in self.old)) has → AllByRecursion (λ place. IsTrue (has place)) (places_of ids.now) → OnOk result (steps.new ≤ steps.old + 2 * (length ids.now + edges has (nodes_of (nodes_in self.old)))) }
+        ensures written { (ts : List PlainTerm) → StandFor (nodes_in self.old) ids.now ts →
+            OnOk result (AreWritten (nodes_in self.new) (texts_in self.new) ts) }
+        ensures steps { (has : ℕ → Bool) → IsClosed (nodes_of (nodes_in self.old)) has →
+            AllByRecursion (λ place. IsTrue (has place)) (places_of ids.now) →
+            OnOk result
+            (steps.new ≤ steps.old + length ids.now + look_ups has (nodes_of (nodes_in self.old))) }
+        ensures by_edges { (has : ℕ → Bool) → IsClosed (nodes_of (nodes_in self.old)) has →
+            AllByRecursion (λ place. IsTrue (has place)) (places_of ids.now) →
+            OnOk result (steps.new
+            ≤ steps.old + 2 * (length ids.now + edges has (nodes_of (nodes_in self.old)))) }
         ensures numbers { nodes_in self.new ≡ nodes_in self.old }
         ensures kept { Keeps S.faults S.place self.old self.new }
     {
@@ -354,9 +403,14 @@ impl<S: Sink> Encoder<'_, S> {
     /// is the first fault of the type, and where the type has a fault, the answer is never Ok. `Memory` comes where there is
     /// no memory left. After an error the encoder refuses all that it is to write.
     pub fn encode_type(&mut self, ty: &TermType) -> Result<Text, EncodeError>
-        ensures put { (s : Tables) → HasTexts self.old s → IfOk result (PutStated S.contents self.old self.new (lines.encode_type (enums_in self.old) (plain_type ty.now) s)) }
-        ensures refused { HasCause (S.faults (sink_of self.old)) (S.faults (sink_of self.new)) (type_fault (enums_in self.old) (plain_type ty.now)) result }
-        ensures complete { IsComplete (is_spent self.old) (S.faults (sink_of self.old)) (S.faults (sink_of self.new)) (type_fault (enums_in self.old) (plain_type ty.now)) result }
+        ensures put { (s : Tables) → HasTexts self.old s →
+            IfOk result (PutStated S.contents self.old self.new
+            (lines.encode_type (enums_in self.old) (plain_type ty.now) s)) }
+        ensures refused { HasCause (S.faults (sink_of self.old)) (S.faults (sink_of self.new))
+            (type_fault (enums_in self.old) (plain_type ty.now)) result }
+        ensures complete { IsComplete (is_spent self.old) (S.faults (sink_of self.old))
+            (S.faults (sink_of self.new)) (type_fault (enums_in self.old) (plain_type ty.now))
+            result }
         ensures spent { SpendsOnError self.old self.new result }
         ensures kept { Keeps S.faults S.place self.old self.new }
         ensures names { (s : Tables) → HasTexts self.old s → (t : Tables) × HasTexts self.new t }
@@ -376,9 +430,14 @@ impl<S: Sink> Encoder<'_, S> {
     ///
     /// Those of `encode_type`, for the two types of the function, that of its argument first.
     pub fn encode_uuf(&mut self, uuf: &Uuf) -> Result<Text, EncodeError>
-        ensures put { (s : Tables) → HasTexts self.old s → IfOk result (PutStated S.contents self.old self.new (lines.encode_function (enums_in self.old) (plain_function uuf.now) s)) }
-        ensures refused { HasCause (S.faults (sink_of self.old)) (S.faults (sink_of self.new)) (meaning_fault (enums_in self.old) (FunctionMeaning (plain_function uuf.now))) result }
-        ensures complete { IsComplete (is_spent self.old) (S.faults (sink_of self.old)) (S.faults (sink_of self.new)) (meaning_fault (enums_in self.old) (FunctionMeaning (plain_function uuf.now))) result }
+        ensures put { (s : Tables) → HasTexts self.old s →
+            IfOk result (PutStated S.contents self.old self.new
+            (lines.encode_function (enums_in self.old) (plain_function uuf.now) s)) }
+        ensures refused { HasCause (S.faults (sink_of self.old)) (S.faults (sink_of self.new))
+            (meaning_fault (enums_in self.old) (FunctionMeaning (plain_function uuf.now))) result }
+        ensures complete { IsComplete (is_spent self.old) (S.faults (sink_of self.old))
+            (S.faults (sink_of self.new))
+            (meaning_fault (enums_in self.old) (FunctionMeaning (plain_function uuf.now))) result }
         ensures spent { SpendsOnError self.old self.new result }
         ensures kept { Keeps S.faults S.place self.old self.new }
         ensures names { (s : Tables) → HasTexts self.old s → (t : Tables) × HasTexts self.new t }
@@ -397,9 +456,14 @@ impl<S: Sink> Encoder<'_, S> {
     ///
     /// Those of `encode` for this term; `Spent` comes as there.
     pub fn encode_term(&mut self, t: &Term) -> Result<Text, EncodeError>
-        ensures put { (s : Tables) → HasTexts self.old s → IfOk result (PutStated S.contents self.old self.new (lines.encode_term (enums_in self.old) (plain_term t.now) s)) }
-        ensures refused { HasCause (S.faults (sink_of self.old)) (S.faults (sink_of self.new)) (term_fault (enums_in self.old) (plain_term t.now)) result }
-        ensures complete { IsComplete (is_spent self.old) (S.faults (sink_of self.old)) (S.faults (sink_of self.new)) (term_fault (enums_in self.old) (plain_term t.now)) result }
+        ensures put { (s : Tables) → HasTexts self.old s →
+            IfOk result (PutStated S.contents self.old self.new
+            (lines.encode_term (enums_in self.old) (plain_term t.now) s)) }
+        ensures refused { HasCause (S.faults (sink_of self.old)) (S.faults (sink_of self.new))
+            (term_fault (enums_in self.old) (plain_term t.now)) result }
+        ensures complete { IsComplete (is_spent self.old) (S.faults (sink_of self.old))
+            (S.faults (sink_of self.new)) (term_fault (enums_in self.old) (plain_term t.now))
+            result }
         ensures spent { SpendsOnError self.old self.new result }
         ensures kept { Keeps S.faults S.place self.old self.new }
         ensures names { (s : Tables) → HasTexts self.old s → (t : Tables) × HasTexts self.new t }
@@ -411,9 +475,14 @@ impl<S: Sink> Encoder<'_, S> {
 
     /// Writes the lines that a subject needs, and answers its text.
     fn encode_subject(&mut self, subject: Subject<'_>) -> Result<Text, EncodeError>
-        ensures put { (s : Tables) → HasTexts self.old s → IfOk result (PutStated S.contents self.old self.new (encode_meaning (enums_in self.old) (meaning_of subject.entry) s)) }
-        ensures refused { HasCause (S.faults (sink_of self.old)) (S.faults (sink_of self.new)) (meaning_fault (enums_in self.old) (meaning_of subject.entry)) result }
-        ensures complete { IsComplete (is_spent self.old) (S.faults (sink_of self.old)) (S.faults (sink_of self.new)) (meaning_fault (enums_in self.old) (meaning_of subject.entry)) result }
+        ensures put { (s : Tables) → HasTexts self.old s →
+            IfOk result (PutStated S.contents self.old self.new
+            (encode_meaning (enums_in self.old) (meaning_of subject.entry) s)) }
+        ensures refused { HasCause (S.faults (sink_of self.old)) (S.faults (sink_of self.new))
+            (meaning_fault (enums_in self.old) (meaning_of subject.entry)) result }
+        ensures complete { IsComplete (is_spent self.old) (S.faults (sink_of self.old))
+            (S.faults (sink_of self.new))
+            (meaning_fault (enums_in self.old) (meaning_of subject.entry)) result }
         ensures spent { SpendsOnError self.old self.new result }
         ensures kept { Keeps S.faults S.place self.old self.new }
         ensures names { (s : Tables) → HasTexts self.old s → (t : Tables) × HasTexts self.new t }
@@ -424,294 +493,6 @@ impl<S: Sink> Encoder<'_, S> {
             return Err(EncodeError::Spent);
         }
         let outcome = self.writer.put_subject(subject);
-        settle(&mut self.failed, outcome)
-    }
-
-    /// Writes `(declare-datatype ID (CONSTRUCTORS))` (SMT-LIB 2.7, chapter 3, Scripts) of these constructors, each on a line
-    /// of its own, and answers the id.
-    ///
-    /// What is handed in is written as it stands. The names that the encoder has stay as they are: the id is not entered
-    /// among them.
-    ///
-    /// # Errors
-    ///
-    /// `Spent` comes exactly from an encoder of which an earlier call answered an error, and leaves it as it is. `Io` comes
-    /// only where the sink's count of faults rose in this call, or stands at its last value; `Memory` where there is no memory
-    /// left. After an error the encoder refuses all that it is to write.
-    pub fn declare_type(&mut self, id: &str, mks: &[Text]) -> Result<Text, EncodeError>
-        ensures put { IfOk result (PutUnder S.contents (sink_of self.old) (sink_of self.new) id.now (declare_datatype_text id.now [] (texts mks.now))) }
-        ensures refused { HasCause (S.faults (sink_of self.old)) (S.faults (sink_of self.new)) None result }
-        ensures complete { IsComplete (is_spent self.old) (S.faults (sink_of self.old)) (S.faults (sink_of self.new)) None result }
-        ensures spent { SpendsOnError self.old self.new result }
-        ensures kept { NamesStay S.faults S.place None self.old self.new }
-    {
-        if self.failed {
-            return Err(EncodeError::Spent);
-        }
-        let outcome = self.writer.put_type(id, mks);
-        settle(&mut self.failed, outcome)
-    }
-
-    /// Writes the comment and the datatype of an entity type, as `encode` does, under the name `Ek` of the next entity type,
-    /// and answers the name (`; TYPE` and `(declare-datatype Ek ..)`, SMT-LIB 2.7, chapter 3, Lexicon and Scripts).
-    ///
-    /// Of an enum type the comment has the members, and the datatype a constructor `Ek_mi` for each of them; of another
-    /// type the constructor is `Ek` with the id. The names that the encoder has stay as they are, so that the next entity
-    /// type gets the same name.
-    ///
-    /// # Errors
-    ///
-    /// Those of `declare_type`, and `EmptyEnum` of an enum type without members, of which nothing is written.
-    pub fn declare_entity_type(&mut self, ety: &EntityType) -> Result<Text, EncodeError>
-        ensures put { (s : Tables) → HasNames self.old s → let members = members_of (enums_in self.old) (bytes_of_type ety.now) in
-            IfOk result (PutUnder S.contents (sink_of self.old) (sink_of self.new) (next_entity s) (spelled_lines (entity_lines members (bytes_of_type ety.now) (next_entity s)))) }
-        ensures refused { HasCause (S.faults (sink_of self.old)) (S.faults (sink_of self.new)) (fault_of_type (enums_in self.old) ety.now) result }
-        ensures complete { IsComplete (is_spent self.old) (S.faults (sink_of self.old)) (S.faults (sink_of self.new)) (fault_of_type (enums_in self.old) ety.now) result }
-        ensures spent { SpendsOnError self.old self.new result }
-        ensures kept { NamesStay S.faults S.place (fault_of_type (enums_in self.old) ety.now) self.old self.new }
-    {
-        if self.failed {
-            return Err(EncodeError::Spent);
-        }
-        let outcome = self.writer.put_entity_type(ety);
-        settle(&mut self.failed, outcome)
-    }
-
-    /// Writes the datatype of an extension type, as `encode` does, under the name that it has, and answers this name
-    /// (`(declare-datatype Decimal ..)` and so on, SMT-LIB 2.7, chapter 3, Lexicon and Scripts).
-    ///
-    /// The datatypes of decimals, datetimes and durations have one constructor, at a number of 64 bits. That of IP ranges,
-    /// `IPAddr`, has `V4` and `V6`, at an address of 32 or 128 bits and the option of a prefix of 5 or 7 bits. The names
-    /// that the encoder has stay as they are.
-    ///
-    /// # Errors
-    ///
-    /// Those of `declare_type`.
-    pub fn declare_ext_type(&mut self, ext_ty: ExtType) -> Result<Text, EncodeError>
-        ensures put { IfOk result (PutUnder S.contents (sink_of self.old) (sink_of self.new) (kind_name (plain_kind ext_ty)) (spelled_lines (kind_lines (plain_kind ext_ty) (kind_name (plain_kind ext_ty))))) }
-        ensures refused { HasCause (S.faults (sink_of self.old)) (S.faults (sink_of self.new)) None result }
-        ensures complete { IsComplete (is_spent self.old) (S.faults (sink_of self.old)) (S.faults (sink_of self.new)) None result }
-        ensures spent { SpendsOnError self.old self.new result }
-        ensures kept { NamesStay S.faults S.place None self.old self.new }
-    {
-        if self.failed {
-            return Err(EncodeError::Spent);
-        }
-        let outcome = self.writer.put_ext_type(ext_ty);
-        settle(&mut self.failed, outcome)
-    }
-
-    /// Writes the comment and the datatype of a record type, by its attributes and their sorts in this order, under the name
-    /// `Rk` of the next record type, and answers the name (`; {a, b}` and `(declare-datatype Rk ..)`, SMT-LIB 2.7, chapter 3,
-    /// Lexicon and Scripts).
-    ///
-    /// The datatype has the constructor `Rk`, with a selector `Rk_ai` for the attribute at the place i of the list. The
-    /// sorts are written as they stand. The names that the encoder has stay as they are, so that the next record type gets
-    /// the same name.
-    ///
-    /// # Errors
-    ///
-    /// Those of `declare_type`.
-    pub fn declare_record_type(&mut self, rty: &[(Attr, Text)]) -> Result<Text, EncodeError>
-        ensures put { (s : Tables) → HasNames self.old s →
-            IfOk result (PutUnder S.contents (sink_of self.old) (sink_of self.new) (next_record s) (spelled_lines (record_lines (attributes_in rty.now) (next_record s) (sorts_given rty.now)))) }
-        ensures refused { HasCause (S.faults (sink_of self.old)) (S.faults (sink_of self.new)) None result }
-        ensures complete { IsComplete (is_spent self.old) (S.faults (sink_of self.old)) (S.faults (sink_of self.new)) None result }
-        ensures spent { SpendsOnError self.old self.new result }
-        ensures kept { NamesStay S.faults S.place None self.old self.new }
-    {
-        if self.failed {
-            return Err(EncodeError::Spent);
-        }
-        let outcome = self.writer.put_record_type_of_pairs(rty);
-        settle(&mut self.failed, outcome)
-    }
-
-    /// Writes `; "id"` and `(declare-const tm TY_ENC)` of a variable (SMT-LIB 2.7, chapter 3, Lexicon and Scripts), `tm`
-    /// being the name of the next term, and answers the name.
-    ///
-    /// The sort is written as it stands, whatever the type of the variable is. The names that the encoder has stay as they
-    /// are, so that the next term gets the same name.
-    ///
-    /// # Errors
-    ///
-    /// Those of `declare_type`.
-    pub fn declare_var(&mut self, v: &TermVar, ty_enc: &str) -> Result<Text, EncodeError>
-        ensures put { (s : Tables) → HasNames self.old s →
-            IfOk result (PutUnder S.contents (sink_of self.old) (sink_of self.new) (next_term s) (comment_text (quoted_id (rc_str_bytes v.now.id)) ++ declare_const_text (next_term s) ty_enc.now)) }
-        ensures refused { HasCause (S.faults (sink_of self.old)) (S.faults (sink_of self.new)) None result }
-        ensures complete { IsComplete (is_spent self.old) (S.faults (sink_of self.old)) (S.faults (sink_of self.new)) None result }
-        ensures spent { SpendsOnError self.old self.new result }
-        ensures kept { NamesStay S.faults S.place None self.old self.new }
-    {
-        if self.failed {
-            return Err(EncodeError::Spent);
-        }
-        let outcome = self.writer.put_var(v, ty_enc);
-        settle(&mut self.failed, outcome)
-    }
-
-    /// Writes `(define-fun tm () TY_ENC T_ENC)` (SMT-LIB 2.7, chapter 3, Scripts), `tm` being the name of the next term, and
-    /// answers the name.
-    ///
-    /// The sort and the body are written as they stand. The names that the encoder has stay as they are, so that the next
-    /// term gets the same name.
-    ///
-    /// # Errors
-    ///
-    /// Those of `declare_type`.
-    pub fn define_term(&mut self, ty_enc: &str, t_enc: &str) -> Result<Text, EncodeError>
-        ensures put { (s : Tables) → HasNames self.old s →
-            IfOk result (PutUnder S.contents (sink_of self.old) (sink_of self.new) (next_term s) (define_fun_text (next_term s) [] ty_enc.now t_enc.now)) }
-        ensures refused { HasCause (S.faults (sink_of self.old)) (S.faults (sink_of self.new)) None result }
-        ensures complete { IsComplete (is_spent self.old) (S.faults (sink_of self.old)) (S.faults (sink_of self.new)) None result }
-        ensures spent { SpendsOnError self.old self.new result }
-        ensures kept { NamesStay S.faults S.place None self.old self.new }
-    {
-        if self.failed {
-            return Err(EncodeError::Spent);
-        }
-        let outcome = self.writer.put_term(ty_enc, t_enc);
-        settle(&mut self.failed, outcome)
-    }
-
-    /// Writes the definition of a set as `define_term` does, with the body `(set.insert x y (as set.empty TY_ENC))` of these
-    /// elements, or `(as set.empty TY_ENC)` where there are none, and answers the name.
-    ///
-    /// The sort and the elements are written as they stand. The names that the encoder has stay as they are.
-    ///
-    /// # Errors
-    ///
-    /// Those of `declare_type`.
-    pub fn define_set(&mut self, ty_enc: &str, t_encs: &[Text]) -> Result<Text, EncodeError>
-        ensures put { (s : Tables) → HasNames self.old s →
-            IfOk result (PutUnder S.contents (sink_of self.old) (sink_of self.new) (next_term s) (define_fun_text (next_term s) [] ty_enc.now (set_body_text ty_enc.now (texts t_encs.now)))) }
-        ensures refused { HasCause (S.faults (sink_of self.old)) (S.faults (sink_of self.new)) None result }
-        ensures complete { IsComplete (is_spent self.old) (S.faults (sink_of self.old)) (S.faults (sink_of self.new)) None result }
-        ensures spent { SpendsOnError self.old self.new result }
-        ensures kept { NamesStay S.faults S.place None self.old self.new }
-    {
-        if self.failed {
-            return Err(EncodeError::Spent);
-        }
-        let outcome = self.writer.put_set(ty_enc, t_encs);
-        settle(&mut self.failed, outcome)
-    }
-
-    /// Writes the definition of a record as `define_term` does, with the body `(TY_ENC x y)` of these fields, or `TY_ENC`
-    /// alone where there is no field, or one that has no character, and answers the name.
-    ///
-    /// The sort and the fields are written as they stand. The names that the encoder has stay as they are.
-    ///
-    /// # Errors
-    ///
-    /// Those of `declare_type`.
-    pub fn define_record(&mut self, ty_enc: &str, t_encs: &[Text]) -> Result<Text, EncodeError>
-        ensures put { (s : Tables) → HasNames self.old s →
-            IfOk result (PutUnder S.contents (sink_of self.old) (sink_of self.new) (next_term s) (define_fun_text (next_term s) [] ty_enc.now (record_body_text ty_enc.now (texts t_encs.now)))) }
-        ensures refused { HasCause (S.faults (sink_of self.old)) (S.faults (sink_of self.new)) None result }
-        ensures complete { IsComplete (is_spent self.old) (S.faults (sink_of self.old)) (S.faults (sink_of self.new)) None result }
-        ensures spent { SpendsOnError self.old self.new result }
-        ensures kept { NamesStay S.faults S.place None self.old self.new }
-    {
-        if self.failed {
-            return Err(EncodeError::Spent);
-        }
-        let outcome = self.writer.put_record(ty_enc, t_encs);
-        settle(&mut self.failed, outcome)
-    }
-
-    /// Answers the name of an entity whose type has this sort: of an enum type `TY_ENC_mi`, the constructor of the member,
-    /// for which there is no line; of another type the name of the next term, for which it writes the definition as
-    /// `define_term` does, with the body `(TY_ENC "id")`.
-    ///
-    /// The sort is written as it stands. The names that the encoder has stay as they are.
-    ///
-    /// # Errors
-    ///
-    /// Those of `declare_type`, and where the type is an enum type and the entity no member of it, `EnumMissingMember`;
-    /// where the type is none, and the id has a character above `SMT_LIB_MAX_CODE_POINT`, `EncodeStringFailed`. Of these
-    /// two nothing is written.
-    pub fn define_entity(&mut self, ty_enc: &str, entity: &EntityUID) -> Result<Text, EncodeError>
-        ensures put { (s : Tables) → HasNames self.old s → let members = members_of (enums_in self.old) (bytes_of_type entity.now.ety) in
-            IfOk result (PutUnder S.contents (sink_of self.old) (sink_of self.new) (name_of_entity members (bytes_of_id entity.now.id) ty_enc.now s) (line_of_entity members (bytes_of_id entity.now.id) ty_enc.now s)) }
-        ensures refused { HasCause (S.faults (sink_of self.old)) (S.faults (sink_of self.new)) (fault_of_entity (enums_in self.old) entity.now) result }
-        ensures complete { IsComplete (is_spent self.old) (S.faults (sink_of self.old)) (S.faults (sink_of self.new)) (fault_of_entity (enums_in self.old) entity.now) result }
-        ensures spent { SpendsOnError self.old self.new result }
-        ensures kept { NamesStay S.faults S.place (fault_of_entity (enums_in self.old) entity.now) self.old self.new }
-    {
-        if self.failed {
-            return Err(EncodeError::Spent);
-        }
-        let outcome = self.writer.put_entity(ty_enc, entity);
-        settle(&mut self.failed, outcome)
-    }
-
-    /// Writes the definition of an attribute of a record as `define_term` does, with the body `(Rk_ai T_ENC)`, and answers
-    /// the name: `Rk` is the name that the encoder has for the record type, and i the place of the attribute there.
-    ///
-    /// The sort and the record's text are written as they stand. The names that the encoder has stay as they are.
-    ///
-    /// # Errors
-    ///
-    /// Those of `declare_type`, and where the encoder has no name for the type, `MissingTypeEncoding`; where it has one, and
-    /// the type is no record type, `ExpectRecord`; where the record type does not have the attribute, `RecordMissingAttr`.
-    /// Of these three nothing is written.
-    pub fn define_record_get(
-        &mut self,
-        ty_enc: &str,
-        a: &Attr,
-        t_enc: &str,
-        ty: &TermType,
-    ) -> Result<Text, EncodeError>
-        ensures put { (s : Tables) → HasNames self.old s →
-            IfOk result (PutUnder S.contents (sink_of self.old) (sink_of self.new) (next_term s) (define_fun_text (next_term s) [] ty_enc.now (selection_text (rc_str_bytes a.now) (plain_type ty.now) (t_enc.now ∷ []) s))) }
-        ensures refused { (s : Tables) → HasNames self.old s → HasCause (S.faults (sink_of self.old)) (S.faults (sink_of self.new)) (fault_of_selection s (rc_str_bytes a.now) (plain_type ty.now)) result }
-        ensures complete { (s : Tables) → HasNames self.old s → IsComplete (is_spent self.old) (S.faults (sink_of self.old)) (S.faults (sink_of self.new)) (fault_of_selection s (rc_str_bytes a.now) (plain_type ty.now)) result }
-        ensures spent { SpendsOnError self.old self.new result }
-        ensures kept { (s : Tables) → HasNames self.old s → NamesStay S.faults S.place (fault_of_selection s (rc_str_bytes a.now) (plain_type ty.now)) self.old self.new }
-    {
-        if self.failed {
-            return Err(EncodeError::Spent);
-        }
-        let outcome = self.writer.put_record_get(ty_enc, a, t_enc, ty);
-        settle(&mut self.failed, outcome)
-    }
-
-    /// Writes the definition of an application as `define_term` does, with the body `(HEAD x y)` of these texts of its
-    /// operands, and answers the name. Behind the operands of `string.like` stands the pattern.
-    ///
-    /// The head is the operator's text; of a function it is the function's name, whose lines are written before, as
-    /// `encode_uuf` does; of an attribute it is the selector at the type of the first of the terms, as `define_record_get`
-    /// has it. The sort and the operands are written as they stand, and of other operators the terms do not matter. Only the
-    /// names that a function needs are entered, and the name that is answered is not.
-    ///
-    /// # Errors
-    ///
-    /// Those of `declare_type`, and where an attribute is taken and there is no term, `MalformedRecordGet`; where there is
-    /// one, those of `define_record_get` for its type; of a function those of `encode_uuf`; and of a pattern with a character
-    /// above `SMT_LIB_MAX_CODE_POINT`, `EncodePatternFailed`. Of these nothing is written, unless the operator is a function.
-    pub fn define_app(
-        &mut self,
-        ty_enc: &str,
-        op: &Op,
-        t_encs: &[Text],
-        ts: &[Term],
-    ) -> Result<Text, EncodeError>
-        ensures put { (s : Tables) → HasTexts self.old s →
-            IfOk result (PutApplied S.contents self.old self.new (encode_head (enums_in self.old) (plain_op op.now) (terms (map plain_term ts.now)) s) (plain_op op.now) ty_enc.now (texts t_encs.now)) }
-        ensures refused { (s : Tables) → HasTexts self.old s → HasCause (S.faults (sink_of self.old)) (S.faults (sink_of self.new)) (fault_of_application (enums_in self.old) s (plain_op op.now) (map plain_term ts.now)) result }
-        ensures complete { (s : Tables) → HasTexts self.old s → IsComplete (is_spent self.old) (S.faults (sink_of self.old)) (S.faults (sink_of self.new)) (fault_of_application (enums_in self.old) s (plain_op op.now) (map plain_term ts.now)) result }
-        ensures spent { SpendsOnError self.old self.new result }
-        ensures kept { Keeps S.faults S.place self.old self.new }
-        ensures numbers { KeepsMeanings (nodes_in self.old) (nodes_in self.new) }
-        ensures levels { LevelsStay self.old self.new }
-        ensures unput { (s : Tables) → HasTexts self.old s → begins_with_function (plain_op op.now) ≡ false → IsTrue (is_some (fault_of_application (enums_in self.old) s (plain_op op.now) (map plain_term ts.now))) → sink_of self.new ≡ sink_of self.old }
-    {
-        if self.failed {
-            return Err(EncodeError::Spent);
-        }
-        let outcome = self.writer.put_application(ty_enc, op, t_encs, ts);
         settle(&mut self.failed, outcome)
     }
 }

@@ -113,6 +113,7 @@ impl From<SinkError> for EncodeError {
 
 impl From<BitVecError> for EncodeError {
     ghost use Rattle.std.specs.Prelude.{◌≡◌};
+    ghost use Rattle.smt_encode.specs.declared.error.EncodeError.TheVariants.{};
     ghost use Rattle.smt_encode.specs.declared.error.EncodeError.TheVariants.{BitVecError as BitsRefused};
 
     ghost from_gives = { λ inner error. error ≡ BitsRefused inner };

@@ -1,12 +1,14 @@
 // The levels of a script: what is declared and asserted in a level goes with it.
-ghost use Rattle.std.specs.Prelude.{ℕ, List, [], ◌∷◌, ◌++◌, ◌≡◌, ◌↔◌, ◌<◌, ◌+◌, false, IsErrOf, IsOkUnless, None, OnErr, OnOk, length};
+ghost use Rattle.std.specs.Prelude.{ℕ, List, [], ◌∷◌, ◌++◌, ◌≡◌, ◌↔◌, ◌<◌, ◌+◌, false, IsErrOf};
+ghost use Rattle.std.specs.Prelude.{IsOkUnless, None, OnErr, OnOk, length};
 ghost use Rattle.law_texts.specs.LineTexts.{pop_text};
 ghost use Rattle.law_lines.specs.Line.{Push, spelled_lines};
 ghost use Rattle.law_lines.specs.Lines.{beginning, Encoding, PopCall, PushCall};
 ghost use Rattle.law_lines.specs.NameTables.{Tables};
 ghost use Rattle.smt_script.specs.Sink.{AppendsPart, Rose};
 ghost use Rattle.smt_encode.specs.Refusals.{HasCause, IsComplete};
-ghost use Rattle.smt_encode.specs.declared.error.EncodeError.TheVariants.{Memory as NoMemory, NoScope as NoLevel};
+ghost use Rattle.smt_encode.specs.declared.error.EncodeError.TheVariants.{Memory as NoMemory};
+ghost use Rattle.smt_encode.specs.declared.error.EncodeError.TheVariants.{NoScope as NoLevel};
 
 use crate::encoder::Encoder;
 use crate::error::EncodeError;
@@ -26,7 +28,9 @@ impl<S> Encoder<'_, S> {
 }
 
 impl<S: Sink> Encoder<'_, S> {
-    ghost use Rattle.smt_encode.specs.Encoded.{has_begun, is_spent, levels_of, nodes_in, sink_of, CallKeepsFit, CallKeepsWellWritten, HasTexts, Keeps, PutsCall, Spends};
+    ghost use Rattle.smt_encode.specs.Encoded.{has_begun, is_spent, levels_of, nodes_in, sink_of};
+    ghost use Rattle.smt_encode.specs.Encoded.{CallKeepsFit, CallKeepsWellWritten};
+    ghost use Rattle.smt_encode.specs.Encoded.{HasTexts, Keeps, PutsCall, Spends};
     ghost use Rattle.smt_encode.specs.Interrupted.{IsInterrupted};
 
     /// Opens a level, by `(push 1)` (SMT-LIB 2.7, chapter 4, The Assertion Stack). The declaration of the datatype `Option`
@@ -59,9 +63,13 @@ impl<S: Sink> Encoder<'_, S> {
         ensures well_written { CallKeepsWellWritten S.contents self.old self.new PushCall result }
         ensures levels { OnOk result (levels_of self.new ≡ levels_of self.old + 1) }
         ensures spent { Spends self.old self.new result }
-        ensures refused { HasCause (S.faults (sink_of self.old)) (S.faults (sink_of self.new)) None result }
-        ensures complete { IsComplete (is_spent self.old) (S.faults (sink_of self.old)) (S.faults (sink_of self.new)) None result }
-        ensures part { OnErr result (AppendsPart (S.contents (sink_of self.old)) (S.contents (sink_of self.new)) (spelled_lines (beginning (has_begun self.old) ++ Push ∷ []))) }
+        ensures refused { HasCause (S.faults (sink_of self.old)) (S.faults (sink_of self.new)) None
+            result }
+        ensures complete { IsComplete (is_spent self.old) (S.faults (sink_of self.old))
+            (S.faults (sink_of self.new)) None result }
+        ensures part { OnErr result (AppendsPart (S.contents (sink_of self.old))
+            (S.contents (sink_of self.new))
+            (spelled_lines (beginning (has_begun self.old) ++ Push ∷ []))) }
         ensures stopped { IsInterrupted S.contents self.old self.new PushCall result }
         ensures names { (s : Tables) → HasTexts self.old s → HasTexts self.new s }
         ensures numbers { nodes_in self.new ≡ nodes_in self.old }
@@ -93,11 +101,16 @@ impl<S: Sink> Encoder<'_, S> {
         ensures well_written { CallKeepsWellWritten S.contents self.old self.new PopCall result }
         ensures levels { OnOk result (levels_of self.old ≡ levels_of self.new + 1) }
         ensures spent { Spends self.old self.new result }
-        ensures scope { IsErrOf result NoLevel ↔ ((is_spent self.old ≡ false) × (levels_of self.old ≡ 0)) }
+        ensures scope { IsErrOf result NoLevel
+            ↔ ((is_spent self.old ≡ false) × (levels_of self.old ≡ 0)) }
         ensures unput { IsErrOf result NoLevel → sink_of self.new ≡ sink_of self.old }
-        ensures refused { ¬ IsErrOf result NoLevel → HasCause (S.faults (sink_of self.old)) (S.faults (sink_of self.new)) None result }
-        ensures complete { is_spent self.old ≡ false → 0 < levels_of self.old → (Rose (S.faults (sink_of self.old)) (S.faults (sink_of self.new)) → ⊥) → IsOkUnless result NoMemory }
-        ensures part { OnErr result (AppendsPart (S.contents (sink_of self.old)) (S.contents (sink_of self.new)) pop_text) }
+        ensures refused { ¬ IsErrOf result NoLevel →
+            HasCause (S.faults (sink_of self.old)) (S.faults (sink_of self.new)) None result }
+        ensures complete { is_spent self.old ≡ false → 0 < levels_of self.old →
+            (Rose (S.faults (sink_of self.old)) (S.faults (sink_of self.new)) → ⊥) →
+            IsOkUnless result NoMemory }
+        ensures part { OnErr result
+            (AppendsPart (S.contents (sink_of self.old)) (S.contents (sink_of self.new)) pop_text) }
         ensures stopped { IsInterrupted S.contents self.old self.new PopCall result }
         ensures names { (s : Tables) → HasTexts self.old s → OnErr result (HasTexts self.new s) }
         ensures numbers { nodes_in self.new ≡ nodes_in self.old }

@@ -20,20 +20,28 @@ use std::marker::Brand;
 use std::sync::ledger::{Blank, Ledger};
 
 impl<S: Sink> Writer<'_, S> {
-    ghost use Rattle.smt_spelling.specs.Names.{enums_under, nodes_under, HasRoom, KeepLevels, StandsOn};
+    ghost use Rattle.smt_spelling.specs.Names.{enums_under, nodes_under, HasRoom, KeepLevels};
+    ghost use Rattle.smt_spelling.specs.Names.{StandsOn};
     ghost use Rattle.smt_encode.specs.Steps.{FaultCounted, HasTables, WritesStated};
     ghost use Rattle.smt_encode.specs.Stopped.{Stops};
     ghost use Rattle.smt_spelling.specs.Spelled.{IsSpelled};
 
     /// Puts the lines that a subject needs, and keeps their names; its text.
     pub(crate) fn put_subject(&mut self, subject: Subject<'_>) -> Result<Text, WriteError>
-        ensures lines { WritesStated S.contents self.old self.new (encode_meaning (enums_under self.old.names) (meaning_of subject.entry)) IsSpelled result }
-        ensures stopped { Stops S.contents (enums_under self.old.names) (IsTrue (is_typed (meaning_of subject.entry))) self.old self.new (encode_meaning (enums_under self.old.names) (meaning_of subject.entry)) result }
-        ensures cause { FaultCounted S.faults S.place (WriteError.Sink SinkError.Fault) self.old self.new result }
-        ensures fault { Finds write_fault (meaning_fault (enums_under self.old.names) (meaning_of subject.entry)) result }
+        ensures lines { WritesStated S.contents self.old self.new
+            (encode_meaning (enums_under self.old.names) (meaning_of subject.entry)) IsSpelled
+            result }
+        ensures stopped { Stops S.contents (enums_under self.old.names)
+            (IsTrue (is_typed (meaning_of subject.entry))) self.old self.new
+            (encode_meaning (enums_under self.old.names) (meaning_of subject.entry)) result }
+        ensures cause { FaultCounted S.faults S.place (WriteError.Sink SinkError.Fault) self.old
+            self.new result }
+        ensures fault { Finds write_fault
+            (meaning_fault (enums_under self.old.names) (meaning_of subject.entry)) result }
         ensures numbers { KeepsMeanings (nodes_under self.old.names) (nodes_under self.new.names) }
         ensures named { (s : Tables) → HasTables self.old s → (t : Tables) × HasTables self.new t }
-        ensures levels { (below : List Tables) → KeepLevels self.old.names below → KeepLevels self.new.names below }
+        ensures levels { (below : List Tables) → KeepLevels self.old.names below →
+            KeepLevels self.new.names below }
     {
         let id = self.names.intern_subject(subject)?;
         self.names.make_room()?;
@@ -47,10 +55,16 @@ impl<S: Sink> Writer<'_, S> {
         requires some { 0 < blank.parts }
         requires meant { IsMeant (nodes_under self.old.names) id }
         requires room { HasRoom self.old.names }
-        ensures lines { (m : Meaning) → meaning_in (nodes_under self.old.names) id ≡ Some m → WritesStated S.contents self.old self.new (encode_meaning (enums_under self.old.names) m) IsSpelled result }
-        ensures stopped { (m : Meaning) → meaning_in (nodes_under self.old.names) id ≡ Some m → Stops S.contents (enums_under self.old.names) (IsTrue (is_typed m)) self.old self.new (encode_meaning (enums_under self.old.names) m) result }
-        ensures cause { FaultCounted S.faults S.place (WriteError.Sink SinkError.Fault) self.old self.new result }
-        ensures fault { (m : Meaning) → meaning_in (nodes_under self.old.names) id ≡ Some m → Finds write_fault (meaning_fault (enums_under self.old.names) m) result }
+        ensures lines { (m : Meaning) → meaning_in (nodes_under self.old.names) id ≡ Some m →
+            WritesStated S.contents self.old self.new
+            (encode_meaning (enums_under self.old.names) m) IsSpelled result }
+        ensures stopped { (m : Meaning) → meaning_in (nodes_under self.old.names) id ≡ Some m →
+            Stops S.contents (enums_under self.old.names) (IsTrue (is_typed m)) self.old self.new
+            (encode_meaning (enums_under self.old.names) m) result }
+        ensures cause { FaultCounted S.faults S.place (WriteError.Sink SinkError.Fault) self.old
+            self.new result }
+        ensures fault { (m : Meaning) → meaning_in (nodes_under self.old.names) id ≡ Some m →
+            Finds write_fault (meaning_fault (enums_under self.old.names) m) result }
         ensures stands { StandsOn self.old.names self.new.names }
     {
         let mut steps = Steps::<L>::new(blank);

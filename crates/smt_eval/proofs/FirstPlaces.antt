@@ -8,7 +8,7 @@ use Rattle.std.specs.Ordering.{is_eq}
 use Rattle.std.specs.Prelude.{is_some, option_and_then, slice_get}
 use Rattle.std.specs.declared.cmp.Ordering.{Ordering}
 use Rattle.std.specs.declared.cmp.Ordering.TheVariants.{Equal}
-use Rattle.smt_eval.specs.Places.{first_place}
+use Rattle.smt_eval.specs.FirstPlaces.{first_place}
 
 -- ---- the value at the first place is what the look-up finds
 abbrev value_at : {K V : Type 0} → List (K × V) → ℕ → Option V

@@ -9,8 +9,7 @@ use Rattle.law_assignments.specs.Written.{each_in}
 use Rattle.law_terms.specs.Plain.{PlainTerm}
 use Rattle.law_texts.specs.Outcomes.{◌>>=◌, demanded}
 use Rattle.law_texts.specs.Reading.{Expression}
-use Rattle.smt_job_declarations.specs.ReadAs.{plain_list}
-use Rattle.smt_sexpr.specs.View.{plain}
+use Rattle.smt_sexpr.specs.View.{plain, plain_list}
 use Rattle.smt_sexpr.specs.declared.expression.SExpr.{SExpr}
 use Rattle.smt_eval.specs.InputRefused.{IsInputFaultIn, IsInputReadAs, input_fault_in}
 use Rattle.smt_eval.specs.ReaderView.{ComesToBe, IsInputFault}

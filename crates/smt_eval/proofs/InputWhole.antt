@@ -2,13 +2,13 @@
 use Rattle.std.proofs.Common.{◌≡◌, ℕ, List, [], Ok, Err, map, refl, sym, ap, ◌∙◌, subst}
 use Rattle.law_assignments.specs.Assignments.{PlainAssignment}
 use Rattle.law_assignments.specs.Covered.{first_missing}
-use Rattle.law_assignments.specs.Entries.{assignment_of, function_of, get_of, given_by, selector_of, variable_of}
-use Rattle.law_assignments.specs.Inputs.{declared_in, input_inside, input_of, unless_missing}
+use Rattle.law_assignments.specs.Entries.{assignment_of, assigned_function, get_of, given_by, selector_of, assigned_variable}
+use Rattle.law_assignments.specs.Inputs.{input_inside, input_of, unless_missing}
 use Rattle.law_assignments.specs.Outcomes.{InputFault, InputOutcome, FormlessInput, RefusedJob, of_job}
 use Rattle.law_assignments.specs.Written.{WrittenInput, input_written}
 use Rattle.law_folding.specs.Built.{built}
 use Rattle.law_jobs.specs.Declarations.{Declared}
-use Rattle.law_jobs.specs.Jobs.{PlainJob, built_job, job_of}
+use Rattle.law_jobs.specs.Jobs.{PlainJob, built_job, job_of, declarations_of}
 use Rattle.law_jobs.specs.Outcomes.{Outcome, mapped}
 use Rattle.law_jobs.specs.Steps.{Section, current}
 use Rattle.law_jobs.proofs.Steps.{current_built}
@@ -23,10 +23,10 @@ use Rattle.smt_eval.specs.ReaderView.{built_input}
 
 module _ (ds : Declared) (w : WrittenInput) where
   abbrev variables : InputOutcome (List (List ℕ × PlainTerm))
-  variables = given_by (variable_of ds) [] w.variables
+  variables = given_by (assigned_variable ds) [] w.variables
 
   abbrev functions : InputOutcome (List (List ℕ × PlainDefinition))
-  functions = given_by (function_of ds) [] w.functions
+  functions = given_by (assigned_function ds) [] w.functions
 
   abbrev gets : InputOutcome (List (PlainType × PlainTerm))
   gets = given_by (get_of ds) [] w.gets
@@ -59,25 +59,25 @@ module _ (ds : Declared) (w : WrittenInput) where
     pub no_selectors : a.selectors ≡ []
 
   module _ (a : PlainAssignment) where
-    pub variables_fault : a ≡ no_entries → (f : InputFault) → given_by (variable_of ds) a.variables w.variables ≡ Err f → assignment_of ds w ≡ Err f
-    variables_fault e f h = ap (λ o. together o functions gets selectors) (ap (λ (x : PlainAssignment). given_by (variable_of ds) x.variables w.variables) (sym e) ∙ h)
+    pub variables_fault : a ≡ no_entries → (f : InputFault) → given_by (assigned_variable ds) a.variables w.variables ≡ Err f → assignment_of ds w ≡ Err f
+    variables_fault e f h = ap (λ o. together o functions gets selectors) (ap (λ (x : PlainAssignment). given_by (assigned_variable ds) x.variables w.variables) (sym e) ∙ h)
 
-    pub with_variables : a ≡ no_entries → (b : PlainAssignment) (vs : List (List ℕ × PlainTerm)) → given_by (variable_of ds) a.variables w.variables ≡ Ok vs → b ≡ record a { variables = vs } → HasVariables b
+    pub with_variables : a ≡ no_entries → (b : PlainAssignment) (vs : List (List ℕ × PlainTerm)) → given_by (assigned_variable ds) a.variables w.variables ≡ Ok vs → b ≡ record a { variables = vs } → HasVariables b
     with_variables e b vs h is = subst HasVariables (sym is) (record {
-      done = ap (λ (x : PlainAssignment). given_by (variable_of ds) x.variables w.variables) (sym e) ∙ h;
+      done = ap (λ (x : PlainAssignment). given_by (assigned_variable ds) x.variables w.variables) (sym e) ∙ h;
       no_functions = ap (λ (x : PlainAssignment). x.functions) e;
       no_gets = ap (λ (x : PlainAssignment). x.gets) e;
       no_selectors = ap (λ (x : PlainAssignment). x.selectors) e;
     })
 
-    pub functions_fault : HasVariables a → (f : InputFault) → given_by (function_of ds) a.functions w.functions ≡ Err f → assignment_of ds w ≡ Err f
+    pub functions_fault : HasVariables a → (f : InputFault) → given_by (assigned_function ds) a.functions w.functions ≡ Err f → assignment_of ds w ≡ Err f
     functions_fault g f h =
-        ap (λ o. together o functions gets selectors) g.done ∙ ap (λ o. together (Ok a.variables) o gets selectors) (ap (λ fs. given_by (function_of ds) fs w.functions) (sym g.no_functions) ∙ h)
+        ap (λ o. together o functions gets selectors) g.done ∙ ap (λ o. together (Ok a.variables) o gets selectors) (ap (λ fs. given_by (assigned_function ds) fs w.functions) (sym g.no_functions) ∙ h)
 
-    pub with_functions : HasVariables a → (b : PlainAssignment) (fs : List (List ℕ × PlainDefinition)) → given_by (function_of ds) a.functions w.functions ≡ Ok fs → b ≡ record a { functions = fs } → HasFunctions b
+    pub with_functions : HasVariables a → (b : PlainAssignment) (fs : List (List ℕ × PlainDefinition)) → given_by (assigned_function ds) a.functions w.functions ≡ Ok fs → b ≡ record a { functions = fs } → HasFunctions b
     with_functions g b fs h is = subst HasFunctions (sym is) (record {
       before = g.done;
-      done = ap (λ fs. given_by (function_of ds) fs w.functions) (sym g.no_functions) ∙ h;
+      done = ap (λ fs. given_by (assigned_function ds) fs w.functions) (sym g.no_functions) ∙ h;
       no_gets = g.no_gets;
       no_selectors = g.no_selectors;
     })
@@ -119,10 +119,10 @@ module _ (e : Expression) where
   form_fault f h = ap (λ o. built_input (o >>= input_inside)) h
 
   module _ (w : WrittenInput) (form : demanded FormlessInput (input_written e) ≡ Ok w) where
-    inside : built_input (input_of e) ≡ of_parts (of_job (job_of w.job)) (λ j. assignment_of (declared_in j) w)
+    inside : built_input (input_of e) ≡ of_parts (of_job (job_of w.job)) (λ j. assignment_of (declarations_of j) w)
     inside = ap (λ o. built_input (o >>= input_inside)) form
 
-    refused_so : (o : Outcome (Section × PlainJob)) (f : InputFault) → of_job (mapped (λ x. built_job x.1) o) ≡ Err f → of_parts (of_job o) (λ j. assignment_of (declared_in j) w) ≡ Err f
+    refused_so : (o : Outcome (Section × PlainJob)) (f : InputFault) → of_job (mapped (λ x. built_job x.1) o) ≡ Err f → of_parts (of_job o) (λ j. assignment_of (declarations_of j) w) ≡ Err f
     refused_so (Ok x) f h = absurd (cc)
     refused_so (Err g) f h = (let d : RefusedJob g ≡ f = cc in ap Err d)
 
@@ -142,15 +142,15 @@ module _ (e : Expression) where
       b : IsBuiltOf j
       b = built_so (job_of w.job) refl job
 
-      with_job : built_input (input_of e) ≡ of_parts (Ok b.stated) (λ x. assignment_of (declared_in j) w)
+      with_job : built_input (input_of e) ≡ of_parts (Ok b.stated) (λ x. assignment_of (declarations_of j) w)
       with_job =
-          inside ∙ ap (λ o. of_parts (of_job o) (λ x. assignment_of (declared_in x) w)) b.is_stated
-          ∙ ap (λ (d : Declared). of_parts (Ok b.stated) (λ x. assignment_of d w)) (sym (ap declared_in b.is_built))
+          inside ∙ ap (λ o. of_parts (of_job o) (λ x. assignment_of (declarations_of x) w)) b.is_stated
+          ∙ ap (λ (d : Declared). of_parts (Ok b.stated) (λ x. assignment_of d w)) (sym (ap declarations_of b.is_built))
 
-      pub assignment_fault : (f : InputFault) → assignment_of (declared_in j) w ≡ Err f → built_input (input_of e) ≡ Err f
+      pub assignment_fault : (f : InputFault) → assignment_of (declarations_of j) w ≡ Err f → built_input (input_of e) ≡ Err f
       assignment_fault f h = with_job ∙ ap (λ o. of_parts (Ok b.stated) (λ x. o)) h
 
-      module _ (a : PlainAssignment) (given : assignment_of (declared_in j) w ≡ Ok a) where
+      module _ (a : PlainAssignment) (given : assignment_of (declarations_of j) w ≡ Ok a) where
         currents : map built (current b.stated.1.steps) ≡ current j.steps
         currents = sym (current_built b.stated.1.steps) ∙ ap (λ (x : PlainJob). current x.steps) (sym b.is_built)
 

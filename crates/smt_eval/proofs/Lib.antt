@@ -1,5 +1,4 @@
 pub mod Answered
-pub mod Ascending
 pub mod Entered
 pub mod Entries
 pub mod FirstPlaces

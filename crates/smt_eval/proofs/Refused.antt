@@ -4,9 +4,9 @@ use Rattle.std.specs.Result.{result_ok}
 use Rattle.law_assignments.specs.Outcomes.{of_job, RefusedJob}
 use Rattle.law_jobs.specs.Outcomes.{Outcome, mapped, DuplicateFault, FormFault, LiteralFault, TruthFault, TypeFault, TypingFault, UnbalancedFault, UnknownFault, WidthFault}
 use Rattle.std.specs.Rc.{rc_str_bytes}
-use Rattle.smt_job_declarations.specs.ReadAs.{IsFaultIn}
-use Rattle.smt_job_declarations.specs.declared.error.JobError.{JobError}
-use Rattle.smt_job_declarations.specs.declared.error.JobError.TheVariants.{TooLarge, Parse, TooDeep, BadForm, UnknownName, DuplicateName, BadType, BadWidth, BadLiteral, IllTyped, NotBool, Unbalanced, Memory}
+use Rattle.smt_job_terms.specs.ReadAs.{IsFaultIn}
+use Rattle.smt_job_terms.specs.declared.error.JobError.{JobError}
+use Rattle.smt_job_terms.specs.declared.error.JobError.TheVariants.{TooLarge, Parse, TooDeep, BadForm, UnknownName, DuplicateName, BadType, BadWidth, BadLiteral, IllTyped, NotBool, Unbalanced, Memory}
 use Rattle.smt_eval.specs.InputRefused.{IsInputFaultIn}
 use Rattle.smt_eval.specs.declared.error.EvalError.TheVariants.{Job}
 

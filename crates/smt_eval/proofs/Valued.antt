@@ -27,7 +27,7 @@ use Rattle.smt_term.specs.View.{fields_of, plain_field, plain_fields, plain_term
 use Rattle.smt_term.specs.declared.maps.TermMap.{TermMap}
 use Rattle.smt_term.specs.declared.term.Term.{Term}
 use Rattle.smt_eval.specs.Evaluable.{AllHaveValuesIn, HasValueIn}
-use Rattle.smt_eval.proofs.Ascending.{pairs_in_order}
+use Rattle.smt_term.proofs.InOrder.{pairs_in_order}
 
 module _ (a : PlainAssignment) where
   -- ---- parts

@@ -6,8 +6,7 @@ use Rattle.law_assignments.specs.Written.{WrittenInput, WrittenTable, entries_in
 use Rattle.law_terms.specs.Plain.{PlainType}
 use Rattle.law_texts.specs.Outcomes.{demanded}
 use Rattle.law_texts.specs.Reading.{Expression}
-use Rattle.smt_job_declarations.specs.ReadAs.{plain_list}
-use Rattle.smt_sexpr.specs.View.{plain}
+use Rattle.smt_sexpr.specs.View.{plain, plain_list}
 use Rattle.smt_sexpr.specs.declared.expression.SExpr.{SExpr}
 use Rattle.smt_eval.proofs.InputReading.{not_there, there}
 

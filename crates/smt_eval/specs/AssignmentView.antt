@@ -10,9 +10,9 @@ use Rattle.smt_term.specs.Functions.{plain_definition}
 use Rattle.smt_term.specs.View.{plain_term, plain_type}
 use Rattle.smt_term.specs.declared.term.Term.{Term}
 use Rattle.smt_term.specs.declared.unary_function.Udf.{Udf}
-use Rattle.smt_types.specs.ExtensionView.{plain_extension_op}
-use Rattle.smt_types.specs.declared.extension.ExtOp.{ExtOp}
-use Rattle.smt_types.specs.declared.types.TermType.{TermType}
+use Rattle.smt_term.specs.ExtensionView.{plain_extension_op}
+use Rattle.smt_term.specs.declared.extension.ExtOp.{ExtOp}
+use Rattle.smt_term.specs.declared.types.TermType.{TermType}
 use Rattle.smt_eval.specs.declared.assignment.Assignment.{Assignment}
 
 -- a variable's id and the literal that it is given

@@ -2,14 +2,16 @@
 use Rattle.std.specs.Prelude.{ℕ, ◌≡◌, ◌≤◌, ⊤, length, List, Option, Some, None, option_map, Ok, Err, Result}
 use Rattle.std.specs.Rc.{rc_str_bytes}
 use Rattle.law_assignments.specs.Inputs.{IsFaultyInput, greatest_input_nesting}
-use Rattle.law_assignments.specs.Outcomes.{InputFault, InputOutcome, FormlessInput, RefusedJob, UnknownEntry, DuplicateEntry, NoValue, MissingEntry}
+use Rattle.law_assignments.specs.Outcomes.{InputFault, InputOutcome, FormlessInput, RefusedJob, UnknownEntry, DuplicateEntry, NoValue}
+use Rattle.law_assignments.specs.Outcomes.{MissingEntry}
 use Rattle.law_jobs.specs.Jobs.{IsTooLong, greatest_length}
 use Rattle.smt_sexpr.specs.Refusals.{IsRefused}
 use Rattle.smt_sexpr.specs.declared.error.SExprParseError.{SExprParseError}
 use Rattle.smt_sexpr.specs.declared.error.SExprParseError.TheVariants.{TooDeep as TextTooDeep, Memory as TextWant}
-use Rattle.smt_job_declarations.specs.ReadAs.{fault_in}
+use Rattle.smt_job_terms.specs.ReadAs.{fault_in}
 use Rattle.smt_eval.specs.declared.error.EvalError.{EvalError}
-use Rattle.smt_eval.specs.declared.error.EvalError.TheVariants.{TooLarge, Parse, TooDeep, BadForm, Job, UnknownName, DuplicateName, NotValue, Missing, Memory}
+use Rattle.smt_eval.specs.declared.error.EvalError.TheVariants.{TooLarge, Parse, TooDeep, BadForm, Job, UnknownName, DuplicateName}
+use Rattle.smt_eval.specs.declared.error.EvalError.TheVariants.{NotValue, Missing, Memory}
 
 -- the fault of an input that an error names; an input that is too long, a text that is no expression and a want of memory name none
 abbrev pub input_fault_in : EvalError → Option InputFault

@@ -1,6 +1,6 @@
 pub mod AssignmentView
 pub mod Evaluable
 pub mod InputRefused
-pub mod Places
+pub mod FirstPlaces
 pub mod ReaderView
 pub mod WrittenView

@@ -12,13 +12,13 @@ use Rattle.law_jobs.specs.Jobs.{PlainJob, built_job}
 use Rattle.law_terms.specs.Plain.{ExtensionOp, PlainTerm}
 use Rattle.law_terms.specs.TermOrder.{term_eq}
 use Rattle.law_texts.specs.Outcomes.{◌>>=◌}
-use Rattle.smt_job_declarations.specs.DeclarationView.{HasDeclared}
+use Rattle.smt_job_terms.specs.DeclarationView.{HasDeclared}
 use Rattle.smt_sexpr.specs.Refusals.{IsRefused}
 use Rattle.smt_sexpr.specs.declared.error.SExprParseError.TheVariants.{TooDeep as TextTooDeep}
 use Rattle.smt_term.specs.View.{plain_term}
 use Rattle.smt_term.specs.contracts.term.TermOrd.TheImpl as term_order
 use Rattle.smt_term.specs.declared.term.Term.{Term}
-use Rattle.smt_types.specs.Enums.{enums_of}
+use Rattle.smt_term.specs.Enums.{enums_of}
 use Rattle.smt_eval.specs.InputRefused.{IsInputFaultIn, IsInputTextFault}
 use Rattle.smt_eval.specs.declared.error.EvalError.{EvalError}
 use Rattle.smt_eval.specs.declared.error.EvalError.TheVariants.{Parse, TooDeep, Memory}

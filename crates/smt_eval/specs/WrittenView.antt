@@ -10,7 +10,7 @@ use Rattle.law_texts.specs.Reading.{Expression}
 use Rattle.smt_sexpr.specs.View.{plain}
 use Rattle.smt_sexpr.specs.declared.expression.SExpr.{SExpr}
 use Rattle.smt_term.specs.View.{plain_type}
-use Rattle.smt_types.specs.declared.types.TermType.{TermType}
+use Rattle.smt_term.specs.declared.types.TermType.{TermType}
 use Rattle.smt_eval.specs.declared.written.WrittenInput.{WrittenInput}
 use Rattle.smt_eval.specs.declared.written.WrittenTable.{WrittenTable}
 
@@ -28,7 +28,8 @@ plain_typed g = (plain_type g.0, plain g.1.now)
 
 -- a table as it is written
 abbrev pub plain_written_table : WrittenTable → StatedTable
-plain_written_table w = record { name = rc_str_bytes w.name.now; elsewhere = plain w.elsewhere.now; entries = map plain_pair w.entries.items }
+plain_written_table w =
+    record { name = rc_str_bytes w.name.now; elsewhere = plain w.elsewhere.now; entries = map plain_pair w.entries.items }
 
 -- an input as it is written
 abbrev pub plain_written : WrittenInput → StatedInput

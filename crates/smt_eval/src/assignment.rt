@@ -7,8 +7,8 @@ ghost use Rattle.std.specs.declared.cmp.Ordering.TheVariants.{Equal};
 ghost use Rattle.law_assignments.specs.Assignments.{get_in, selector_in, variable_in};
 ghost use Rattle.smt_term.specs.Functions.{plain_definition};
 ghost use Rattle.smt_term.specs.View.{plain_term, plain_type};
-ghost use Rattle.smt_types.specs.ExtensionView.{plain_extension_op};
-ghost use Rattle.smt_eval.specs.Places.{first_place};
+ghost use Rattle.smt_term.specs.ExtensionView.{plain_extension_op};
+ghost use Rattle.smt_eval.specs.FirstPlaces.{first_place};
 
 use smt_term::{ExtOp, Term, TermError, TermType, Text, Udf};
 use std::alloc::{AllocError, Global};
@@ -20,7 +20,8 @@ use std::collections::BTreeMap;
 struct Entries<K: Ord, V> {
     items: Vec<(K, V)>,
     places: BTreeMap<K, usize>,
-    ghost placed: { (key : K) → get K.cmp places key ≡ first_place (is_at (K.cmp key)) (keys_of items.items) },
+    ghost placed: { (key : K) →
+        get K.cmp places key ≡ first_place (is_at (K.cmp key)) (keys_of items.items) },
 }
 
 impl<K: Ord + Drop, V: Drop> Entries<K, V> {
@@ -36,7 +37,8 @@ impl<K: Ord + Drop, V: Drop> Entries<K, V> {
 
     // The value of the first entry that has the key.
     fn find(&self, key: &K) -> Option<&V>
-        ensures { option_map (λ value. value.now) result ≡ lookup (is_at (K.cmp key.now)) self.now.items.items }
+        ensures { option_map (λ value. value.now) result
+            ≡ lookup (is_at (K.cmp key.now)) self.now.items.items }
     {
         let place = self.places.get(key)?;
         let (_, value) = self.items.get(*place)?;
@@ -71,7 +73,8 @@ pub struct Assignment {
 }
 
 impl Assignment {
-    ghost use Rattle.smt_eval.specs.AssignmentView.{no_entries, plain_assignment, plain_get, plain_selector, plain_table, plain_value};
+    ghost use Rattle.smt_eval.specs.AssignmentView.{no_entries, plain_assignment, plain_get};
+    ghost use Rattle.smt_eval.specs.AssignmentView.{plain_selector, plain_table, plain_value};
 
     /// The assignment that gives nothing. Takes no memory.
     pub fn new(alloc: Global) -> Assignment
@@ -87,28 +90,32 @@ impl Assignment {
 
     /// The literal that it gives a variable.
     pub fn variable(&self, id: &Text) -> Option<&Term>
-        ensures { option_map (λ term. plain_term term.now) result ≡ variable_in (plain_assignment self.now) (rc_str_bytes id.now) }
+        ensures { option_map (λ term. plain_term term.now) result
+            ≡ variable_in (plain_assignment self.now) (rc_str_bytes id.now) }
     {
         self.variables.find(id)
     }
 
     /// The table that it gives a function, by the function's id.
     pub fn function(&self, id: &Text) -> Option<&Udf>
-        ensures { option_map (λ table. plain_definition table.now) result ≡ lookup (bytes_eq (rc_str_bytes id.now)) (plain_assignment self.now).functions }
+        ensures { option_map (λ table. plain_definition table.now) result
+            ≡ lookup (bytes_eq (rc_str_bytes id.now)) (plain_assignment self.now).functions }
     {
         self.functions.find(id)
     }
 
     /// The literal that `option.get` of none gives at an inner type.
     pub fn get(&self, inside: &TermType) -> Option<&Term>
-        ensures { option_map (λ term. plain_term term.now) result ≡ get_in (plain_assignment self.now) (plain_type inside.now) }
+        ensures { option_map (λ term. plain_term term.now) result
+            ≡ get_in (plain_assignment self.now) (plain_type inside.now) }
     {
         self.gets.find(inside)
     }
 
     /// The table that it gives a selector of IP ranges, for ranges of the other family.
     pub fn selector(&self, op: ExtOp) -> Option<&Udf>
-        ensures { option_map (λ table. plain_definition table.now) result ≡ selector_in (plain_assignment self.now) (plain_extension_op op) }
+        ensures { option_map (λ table. plain_definition table.now) result
+            ≡ selector_in (plain_assignment self.now) (plain_extension_op op) }
     {
         for (selector, table) in self.selectors.as_slice() {
             if op == *selector {
@@ -124,7 +131,14 @@ impl Assignment {
     ///
     /// `AllocError`, where there is no memory for the entry.
     pub fn give_variable(&mut self, id: Text, value: Term) -> Result<(), AllocError>
-        ensures ok { OnOk result (plain_assignment self.new ≡ record { variables = (plain_assignment self.old).variables ++ plain_value (id, value) ∷ []; functions = (plain_assignment self.old).functions; gets = (plain_assignment self.old).gets; selectors = (plain_assignment self.old).selectors }) }
+        ensures ok { OnOk result (plain_assignment self.new
+            ≡ record {
+              variables = (plain_assignment self.old).variables ++ plain_value (id, value)
+                  ∷ [];
+              functions = (plain_assignment self.old).functions;
+              gets = (plain_assignment self.old).gets;
+              selectors = (plain_assignment self.old).selectors;
+            }) }
         ensures err { OnErr result (plain_assignment self.new ≡ plain_assignment self.old) }
     {
         self.variables.give(id.clone()?, (id, value))
@@ -136,7 +150,13 @@ impl Assignment {
     ///
     /// `AllocError`, where there is no memory for the entry.
     pub fn give_function(&mut self, id: Text, table: Udf) -> Result<(), AllocError>
-        ensures ok { OnOk result (plain_assignment self.new ≡ record { variables = (plain_assignment self.old).variables; functions = (plain_assignment self.old).functions ++ plain_table (id, table) ∷ []; gets = (plain_assignment self.old).gets; selectors = (plain_assignment self.old).selectors }) }
+        ensures ok { OnOk result (plain_assignment self.new
+            ≡ record {
+              variables = (plain_assignment self.old).variables;
+              functions = (plain_assignment self.old).functions ++ plain_table (id, table) ∷ [];
+              gets = (plain_assignment self.old).gets;
+              selectors = (plain_assignment self.old).selectors;
+            }) }
         ensures err { OnErr result (plain_assignment self.new ≡ plain_assignment self.old) }
     {
         self.functions.give(id.clone()?, (id, table))
@@ -148,7 +168,13 @@ impl Assignment {
     ///
     /// `AllocError`, where there is no memory for the entry.
     pub fn give_get(&mut self, inside: TermType, value: Term) -> Result<(), AllocError>
-        ensures ok { OnOk result (plain_assignment self.new ≡ record { variables = (plain_assignment self.old).variables; functions = (plain_assignment self.old).functions; gets = (plain_assignment self.old).gets ++ plain_get (inside, value) ∷ []; selectors = (plain_assignment self.old).selectors }) }
+        ensures ok { OnOk result (plain_assignment self.new
+            ≡ record {
+              variables = (plain_assignment self.old).variables;
+              functions = (plain_assignment self.old).functions;
+              gets = (plain_assignment self.old).gets ++ plain_get (inside, value) ∷ [];
+              selectors = (plain_assignment self.old).selectors;
+            }) }
         ensures err { OnErr result (plain_assignment self.new ≡ plain_assignment self.old) }
     {
         match inside.share() {
@@ -163,7 +189,14 @@ impl Assignment {
     ///
     /// `AllocError`, where there is no memory for the entry.
     pub fn give_selector(&mut self, op: ExtOp, table: Udf) -> Result<(), AllocError>
-        ensures ok { OnOk result (plain_assignment self.new ≡ record { variables = (plain_assignment self.old).variables; functions = (plain_assignment self.old).functions; gets = (plain_assignment self.old).gets; selectors = (plain_assignment self.old).selectors ++ plain_selector (op, table) ∷ [] }) }
+        ensures ok { OnOk result (plain_assignment self.new
+            ≡ record {
+              variables = (plain_assignment self.old).variables;
+              functions = (plain_assignment self.old).functions;
+              gets = (plain_assignment self.old).gets;
+              selectors =
+                  (plain_assignment self.old).selectors ++ plain_selector (op, table) ∷ [];
+            }) }
         ensures err { OnErr result (plain_assignment self.new ≡ plain_assignment self.old) }
     {
         self.selectors.push((op, table))?;

@@ -1,5 +1,5 @@
 // Why bytes are no job with an assignment, and why a term has no value.
-use smt_job_declarations::JobError;
+use smt_job_terms::JobError;
 use smt_sexpr::SExprParseError;
 use smt_term::{TermError, Text};
 use std::alloc::{AllocError, AllocFailed};

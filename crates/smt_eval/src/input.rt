@@ -2,13 +2,14 @@
 ghost use Rattle.std.specs.Prelude.{◌↔◌, IfErr, IfOk, IsErrOf};
 ghost use Rattle.law_assignments.specs.Covered.{first_missing};
 ghost use Rattle.law_assignments.specs.Entries.{assignment_of};
-ghost use Rattle.law_assignments.specs.Inputs.{IsInputBuilt, greatest_input_nesting, input_of, unless_missing};
+ghost use Rattle.law_assignments.specs.Inputs.{IsInputBuilt, greatest_input_nesting, input_of};
+ghost use Rattle.law_assignments.specs.Inputs.{unless_missing};
 ghost use Rattle.law_assignments.specs.Outcomes.{of_job};
-ghost use Rattle.law_jobs.specs.Jobs.{IsTooLong, built_job, job_of};
+ghost use Rattle.law_jobs.specs.Jobs.{IsTooLong, built_job, job_of, declarations_of};
 ghost use Rattle.law_jobs.specs.Outcomes.{mapped};
 ghost use Rattle.law_jobs.specs.Steps.{current};
 ghost use Rattle.law_texts.specs.Tokens.{IsReadWithin};
-ghost use Rattle.smt_jobs.specs.JobView.{declared_by, plain_job};
+ghost use Rattle.smt_jobs.specs.JobView.{plain_job};
 ghost use Rattle.smt_eval.specs.AssignmentView.{plain_assignment};
 ghost use Rattle.smt_sexpr.specs.View.{plain};
 ghost use Rattle.smt_eval.specs.InputRefused.{IsInputReadAs, IsInputRefusal};
@@ -51,7 +52,8 @@ fn expression_in(alloc: Global, bytes: &[u8]) -> Result<SExpr, EvalError>
 
 /// The job that an expression states, its terms as they are built.
 fn job_in(alloc: Global, expression: &SExpr) -> Result<Job, EvalError>
-    ensures { IsInputReadAs plain_job result (of_job (mapped (λ x. built_job x.1) (job_of (plain expression.now)))) }
+    ensures { IsInputReadAs plain_job result
+        (of_job (mapped (λ x. built_job x.1) (job_of (plain expression.now)))) }
 {
     match read_job_expr(alloc, expression) {
         Ok(job) => Ok(job),
@@ -67,7 +69,8 @@ fn job_in(alloc: Global, expression: &SExpr) -> Result<Job, EvalError>
 
 /// Refuses an assignment that lacks something that the terms of a job reach which are current at its end.
 fn refuse_lacking(alloc: Global, job: &Job, given: &Assignment) -> Result<(), EvalError>
-    ensures { IsInputReadAs (λ u. tt) result (unless_missing (first_missing (plain_assignment given.now) (current (plain_job job.now).steps))) }
+    ensures { IsInputReadAs (λ u. tt) result (unless_missing
+        (first_missing (plain_assignment given.now) (current (plain_job job.now).steps))) }
 {
     match job.current(alloc) {
         Ok(terms) => refuse_missing(alloc, given, terms.items()),
@@ -81,7 +84,8 @@ fn assignment_in(
     job: &Job,
     written: &WrittenInput<'_>,
 ) -> Result<Assignment, EvalError>
-    ensures { IsInputReadAs plain_assignment result (assignment_of (declared_by (plain_job job.now)) (plain_written written.now)) }
+    ensures { IsInputReadAs plain_assignment result
+        (assignment_of (declarations_of (plain_job job.now)) (plain_written written.now)) }
 {
     let reader = Reader::new(alloc, job)?;
     reader.assignment(written)
@@ -89,7 +93,8 @@ fn assignment_in(
 
 /// The job and the assignment that an expression states.
 fn input_in(alloc: Global, expression: &SExpr) -> Result<EvalInput, EvalError>
-    ensures { IsInputReadAs (λ input. (plain_job input.job, plain_assignment input.given)) result (built_input (input_of (plain expression.now))) }
+    ensures { IsInputReadAs (λ input. (plain_job input.job, plain_assignment input.given)) result
+        (built_input (input_of (plain expression.now))) }
 {
     let written = input_written(alloc, expression)?;
     let job = job_in(alloc, written.job)?;
@@ -107,7 +112,8 @@ fn input_in(alloc: Global, expression: &SExpr) -> Result<EvalInput, EvalError>
 /// `TooLarge` comes exactly where there are more than 16777216 bytes. Each other refusal but `Memory` is the first fault of bytes
 /// that are no job with an assignment, as [`EvalError`] orders them. `Memory` comes where there is no memory for the two.
 pub fn read_eval(alloc: Global, bytes: &[u8]) -> Result<EvalInput, EvalError>
-    ensures input { IfOk result (λ input. IsInputBuilt bytes.now (plain_job input.job) (plain_assignment input.given)) }
+    ensures input { IfOk result
+        (λ input. IsInputBuilt bytes.now (plain_job input.job) (plain_assignment input.given)) }
     ensures too_large { IsErrOf result EvalError.TooLarge ↔ IsTooLong bytes.now }
     ensures refused { IfErr result (λ error. IsInputRefusal error bytes.now) }
 {

@@ -1,16 +1,19 @@
 // What an assignment lacks of what terms reach.
-ghost use Rattle.std.specs.Prelude.{◌≡◌, IfOk, IsOkUnless, map, not, option_map};
+ghost use Rattle.std.specs.Prelude.{◌≡◌, IfOk, IsOkUnless, not, option_map};
 ghost use Rattle.std.specs.List.{find};
 ghost use Rattle.std.specs.Rc.{rc_str_bytes};
 ghost use Rattle.law_assignments.specs.Covered as covered;
 ghost use Rattle.law_assignments.specs.Inputs.{unless_missing};
-ghost use Rattle.law_terms.specs.Plain.{ExtOp as ExtensionOf, PlainType, UufOp, VariableTerm, record_fields, terms as in_order};
+ghost use Rattle.law_terms.specs.Plain.{ExtOp as ExtensionOf, PlainType, UufOp, VariableTerm};
+ghost use Rattle.law_terms.specs.Plain.{record_fields, terms as in_order};
 ghost use Rattle.law_terms.specs.Reached.{subterms, subterms_of_all, subterms_of_fields};
-ghost use Rattle.smt_term.specs.View.{plain_fields, plain_function, plain_op, plain_term, plain_type};
-ghost use Rattle.smt_types.specs.ExtensionView.{plain_extension_op};
+ghost use Rattle.smt_term.specs.View.{plain_fields, plain_function, plain_op, plain_term};
+ghost use Rattle.smt_term.specs.View.{plain_terms, plain_type};
+ghost use Rattle.smt_term.specs.ExtensionView.{plain_extension_op};
 ghost use Rattle.smt_eval.specs.AssignmentView.{plain_assignment};
 ghost use Rattle.smt_eval.specs.InputRefused.{IsInputReadAs};
 ghost use Rattle.smt_eval.specs.ReaderView.{missing_behind};
+ghost use Rattle.law_texts.specs.SharedTexts.{GivesText};
 
 use crate::assignment::Assignment;
 use crate::error::EvalError;
@@ -19,7 +22,9 @@ use std::alloc::Global;
 
 /// Whether the assignment gives a function a table of its types.
 fn gives_function(given: &Assignment, function: &Uuf) -> bool
-    ensures { result ≡ covered.gives_op (plain_assignment given.now) (UufOp (plain_function function.now)) (plain_type function.now.out) }
+    ensures { result
+        ≡ covered.gives_op (plain_assignment given.now) (UufOp (plain_function function.now))
+        (plain_type function.now.out) }
 {
     match given.function(&function.id) {
         Some(table) => table.arg.is_same_as(&function.arg) && table.out.is_same_as(&function.out),
@@ -29,7 +34,9 @@ fn gives_function(given: &Assignment, function: &Uuf) -> bool
 
 /// Whether the assignment gives an operator of the extension types a table, where it is a selector of IP ranges.
 fn gives_extension(given: &Assignment, op: ExtOp) -> bool
-    ensures { (ty : PlainType) → result ≡ covered.gives_op (plain_assignment given.now) (ExtensionOf (plain_extension_op op)) ty }
+    ensures { (ty : PlainType) →
+        result
+        ≡ covered.gives_op (plain_assignment given.now) (ExtensionOf (plain_extension_op op)) ty }
 {
     match op {
         ExtOp::IpaddrAddrV4 | ExtOp::IpaddrAddrV6 | ExtOp::IpaddrPrefixV4 | ExtOp::IpaddrPrefixV6 =>
@@ -45,7 +52,8 @@ fn gives_extension(given: &Assignment, op: ExtOp) -> bool
 
 /// Whether the assignment gives what an operator asks for, where it gives this type.
 fn gives_op(given: &Assignment, op: &Op, ty: &TermType) -> bool
-    ensures { result ≡ covered.gives_op (plain_assignment given.now) (plain_op op.now) (plain_type ty.now) }
+    ensures { result
+        ≡ covered.gives_op (plain_assignment given.now) (plain_op op.now) (plain_type ty.now) }
 {
     match op {
         Op::Uuf(function) => gives_function(given, function),
@@ -62,7 +70,10 @@ fn gives_variable(
     id: &Text,
     ty: &TermType,
 ) -> Result<bool, EvalError>
-    ensures gives { IfOk result (λ gives. gives ≡ covered.gives (plain_assignment given.now) (VariableTerm (rc_str_bytes id.now) (plain_type ty.now))) }
+    ensures gives { IfOk result (λ gives.
+        gives
+        ≡ covered.gives (plain_assignment given.now)
+        (VariableTerm (rc_str_bytes id.now) (plain_type ty.now))) }
     ensures refusal { IsOkUnless result EvalError.Memory }
 {
     match given.variable(id) {
@@ -73,7 +84,8 @@ fn gives_variable(
 
 /// Whether the assignment gives what a term asks for itself.
 fn gives(alloc: Global, given: &Assignment, term: &Term) -> Result<bool, EvalError>
-    ensures gives { IfOk result (λ gives. gives ≡ covered.gives (plain_assignment given.now) (plain_term term.now)) }
+    ensures gives { IfOk result
+        (λ gives. gives ≡ covered.gives (plain_assignment given.now) (plain_term term.now)) }
     ensures refusal { IsOkUnless result EvalError.Memory }
 {
     match term {
@@ -92,7 +104,10 @@ fn missing_among<'t>(
     given: &Assignment,
     terms: &'t [Term],
 ) -> Result<Option<&'t Term>, EvalError>
-    ensures missing { IfOk result (λ missing. option_map (λ t. plain_term t.now) missing ≡ find (λ w. not (covered.gives (plain_assignment given.now) w)) (subterms_of_all (in_order (map plain_term terms.now)))) }
+    ensures missing { IfOk result (λ missing.
+        option_map (λ t. plain_term t.now) missing
+        ≡ find (λ w. not (covered.gives (plain_assignment given.now) w))
+        (subterms_of_all (in_order (plain_terms terms.now)))) }
     ensures refusal { IsOkUnless result EvalError.Memory }
 {
     for term in terms {
@@ -110,7 +125,10 @@ fn missing_in_fields<'t>(
     given: &Assignment,
     fields: &'t TermMap,
 ) -> Result<Option<&'t Term>, EvalError>
-    ensures missing { IfOk result (λ missing. option_map (λ t. plain_term t.now) missing ≡ find (λ w. not (covered.gives (plain_assignment given.now) w)) (subterms_of_fields (record_fields (plain_fields fields.now)))) }
+    ensures missing { IfOk result (λ missing.
+        option_map (λ t. plain_term t.now) missing
+        ≡ find (λ w. not (covered.gives (plain_assignment given.now) w))
+        (subterms_of_fields (record_fields (plain_fields fields.now)))) }
     ensures refusal { IsOkUnless result EvalError.Memory }
 {
     for (_, term) in fields.items() {
@@ -128,7 +146,11 @@ fn missing_inside<'t>(
     given: &Assignment,
     term: &'t Term,
 ) -> Result<Option<&'t Term>, EvalError>
-    ensures missing { IfOk result (λ missing. find (λ w. not (covered.gives (plain_assignment given.now) w)) (subterms (plain_term term.now)) ≡ missing_behind (plain_assignment given.now) (option_map (λ t. plain_term t.now) missing) (plain_term term.now)) }
+    ensures missing { IfOk result (λ missing.
+        find (λ w. not (covered.gives (plain_assignment given.now) w))
+        (subterms (plain_term term.now))
+        ≡ missing_behind (plain_assignment given.now) (option_map (λ t. plain_term t.now) missing)
+        (plain_term term.now)) }
     ensures refusal { IsOkUnless result EvalError.Memory }
 {
     match term {
@@ -147,7 +169,10 @@ fn missing_in<'t>(
     given: &Assignment,
     term: &'t Term,
 ) -> Result<Option<&'t Term>, EvalError>
-    ensures missing { IfOk result (λ missing. option_map (λ t. plain_term t.now) missing ≡ find (λ w. not (covered.gives (plain_assignment given.now) w)) (subterms (plain_term term.now))) }
+    ensures missing { IfOk result (λ missing.
+        option_map (λ t. plain_term t.now) missing
+        ≡ find (λ w. not (covered.gives (plain_assignment given.now) w))
+        (subterms (plain_term term.now))) }
     ensures refusal { IsOkUnless result EvalError.Memory }
 {
     if let Some(missing) = missing_inside(alloc, given, term)? {
@@ -162,7 +187,7 @@ fn missing_in<'t>(
 
 /// The name by which it is told what an operator asks for.
 fn asked_op(alloc: Global, op: &Op) -> Result<Text, EvalError>
-    ensures asked { IfOk result (λ name. rc_str_bytes name ≡ covered.asked_op (plain_op op.now)) }
+    ensures asked { GivesText result (covered.asked_op (plain_op op.now)) }
     ensures refusal { IsOkUnless result EvalError.Memory }
 {
     match op {
@@ -174,7 +199,7 @@ fn asked_op(alloc: Global, op: &Op) -> Result<Text, EvalError>
 
 /// The name by which it is told what a term asks for itself.
 fn asked(alloc: Global, term: &Term) -> Result<Text, EvalError>
-    ensures asked { IfOk result (λ name. rc_str_bytes name ≡ covered.asked (plain_term term.now)) }
+    ensures asked { GivesText result (covered.asked (plain_term term.now)) }
     ensures refusal { IsOkUnless result EvalError.Memory }
 {
     match term {
@@ -192,7 +217,8 @@ pub(crate) fn refuse_missing(
     given: &Assignment,
     terms: &[Term],
 ) -> Result<(), EvalError>
-    ensures { IsInputReadAs (λ u. tt) result (unless_missing (covered.first_missing (plain_assignment given.now) (map plain_term terms.now))) }
+    ensures { IsInputReadAs (λ u. tt) result (unless_missing
+        (covered.first_missing (plain_assignment given.now) (plain_terms terms.now))) }
 {
     match missing_among(alloc, given, terms)? {
         Some(term) => Err(EvalError::Missing(asked(alloc, term)?)),

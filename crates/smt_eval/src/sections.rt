@@ -1,25 +1,24 @@
 // The entries of an input into the assignment, section by section from the left.
-ghost use Rattle.std.specs.Prelude.{◌≡◌, IfOk, map, option_map};
+ghost use Rattle.std.specs.Prelude.{◌≡◌, map, option_map};
 ghost use Rattle.std.specs.Rc.{rc_str_bytes};
 ghost use Rattle.law_assignments.specs.Entries as stated;
 ghost use Rattle.law_jobs.specs.Declarations.{Declared as Stated};
-ghost use Rattle.law_terms.specs.Types.{extension_signature};
 ghost use Rattle.smt_sexpr.specs.View.{plain};
 ghost use Rattle.smt_term.specs.Functions.{plain_definition};
 ghost use Rattle.smt_term.specs.View.{plain_term, plain_type};
-ghost use Rattle.smt_types.specs.ExtensionView.{plain_extension_op};
+ghost use Rattle.smt_term.specs.ExtensionView.{plain_extension_op};
 ghost use Rattle.smt_eval.specs.AssignmentView.{plain_assignment, plain_selector};
 ghost use Rattle.smt_eval.specs.InputRefused.{IsInputReadAs};
 ghost use Rattle.smt_eval.specs.ReaderView.{ComesToBe, ReadsFor};
-ghost use Rattle.smt_eval.specs.WrittenView.{plain_named, plain_typed, plain_written, plain_written_table};
+ghost use Rattle.smt_eval.specs.WrittenView.{plain_named, plain_typed, plain_written};
+ghost use Rattle.smt_eval.specs.WrittenView.{plain_written_table};
 
 use crate::assignment::Assignment;
 use crate::error::EvalError;
 use crate::values::{Reader, TableForm, duplicate, unknown};
 use crate::written::{WrittenInput, WrittenTable};
-use smt_bits::{FIVE, HUNDRED_TWENTY_EIGHT, SEVEN, SIXTY_FOUR, THIRTY_TWO};
 use smt_sexpr::SExpr;
-use smt_term::{ExtOp, ExtType, Op, Term, TermError, TermType, Text, Udf};
+use smt_term::{ExtOp, ExtType, Op, Term, TermType, Text, Udf};
 use std::alloc::Global;
 
 /// The selector of a name.
@@ -35,30 +34,6 @@ fn selector_named(name: &str) -> Option<ExtOp>
     }
 }
 
-/// The type that an operator of the extension types gives.
-fn given_type(alloc: Global, op: ExtOp) -> Result<TermType, TermError>
-    ensures { IfOk result (λ ty. plain_type ty ≡ (extension_signature (plain_extension_op op)).1) }
-{
-    match op {
-        ExtOp::DatetimeOfBitVec => Ok(TermType::Ext {
-            xty: ExtType::DateTime,
-        }),
-        ExtOp::DurationOfBitVec => Ok(TermType::Ext {
-            xty: ExtType::Duration,
-        }),
-        ExtOp::DatetimeVal | ExtOp::DecimalVal | ExtOp::DurationVal => {
-            Ok(TermType::Bitvec { n: SIXTY_FOUR })
-        }
-        ExtOp::IpaddrAddrV4 => Ok(TermType::Bitvec { n: THIRTY_TWO }),
-        ExtOp::IpaddrAddrV6 => Ok(TermType::Bitvec {
-            n: HUNDRED_TWENTY_EIGHT,
-        }),
-        ExtOp::IpaddrIsV4 => Ok(TermType::Bool),
-        ExtOp::IpaddrPrefixV4 => TermType::option_of(alloc, TermType::Bitvec { n: FIVE }),
-        ExtOp::IpaddrPrefixV6 => TermType::option_of(alloc, TermType::Bitvec { n: SEVEN }),
-    }
-}
-
 impl Reader<'_> {
     /// The value that the entry of a variable states.
     fn variable_value(
@@ -68,7 +43,9 @@ impl Reader<'_> {
         value: &SExpr,
     ) -> Result<Term, EvalError>
         ensures { (ds : Stated) → ReadsFor self.now ds →
-            IsInputReadAs (λ term. (rc_str_bytes id.now, plain_term term)) result (stated.variable_of ds (plain_assignment given.now).variables (rc_str_bytes id.now, plain value.now)) }
+            IsInputReadAs (λ term. (rc_str_bytes id.now, plain_term term)) result
+            (stated.assigned_variable ds (plain_assignment given.now).variables
+            (rc_str_bytes id.now, plain value.now)) }
     {
         let Some(ty) = self.declared.variables.type_of(id) else {
             return Err(unknown(id));
@@ -86,7 +63,10 @@ impl Reader<'_> {
         entries: &[(&Text, &SExpr)],
     ) -> Result<(), EvalError>
         ensures { (ds : Stated) → ReadsFor self.now ds →
-            ComesToBe (λ vs. plain_assignment given.new ≡ record (plain_assignment given.old) { variables = vs }) result (stated.given_by (stated.variable_of ds) (plain_assignment given.old).variables (map plain_named entries.now)) }
+            ComesToBe (λ vs.
+            plain_assignment given.new ≡ record (plain_assignment given.old) { variables = vs })
+            result (stated.given_by (stated.assigned_variable ds)
+            (plain_assignment given.old).variables (map plain_named entries.now)) }
     {
         for &(id, value) in entries {
             let value = self.variable_value(given, id, value)?;
@@ -102,7 +82,9 @@ impl Reader<'_> {
         written: &WrittenTable<'_>,
     ) -> Result<Udf, EvalError>
         ensures { (ds : Stated) → ReadsFor self.now ds →
-            IsInputReadAs (λ table. (rc_str_bytes written.now.name.now, plain_definition table)) result (stated.function_of ds (plain_assignment given.now).functions (plain_written_table written.now)) }
+            IsInputReadAs (λ table. (rc_str_bytes written.now.name.now, plain_definition table))
+            result (stated.assigned_function ds (plain_assignment given.now).functions
+            (plain_written_table written.now)) }
     {
         let Some(function) = self.declared.functions.function_of(written.name) else {
             return Err(unknown(written.name));
@@ -125,7 +107,10 @@ impl Reader<'_> {
         entries: &[WrittenTable<'_>],
     ) -> Result<(), EvalError>
         ensures { (ds : Stated) → ReadsFor self.now ds →
-            ComesToBe (λ fs. plain_assignment given.new ≡ record (plain_assignment given.old) { functions = fs }) result (stated.given_by (stated.function_of ds) (plain_assignment given.old).functions (map plain_written_table entries.now)) }
+            ComesToBe (λ fs.
+            plain_assignment given.new ≡ record (plain_assignment given.old) { functions = fs })
+            result (stated.given_by (stated.assigned_function ds)
+            (plain_assignment given.old).functions (map plain_written_table entries.now)) }
     {
         for written in entries {
             let table = self.function_table(given, written)?;
@@ -142,7 +127,9 @@ impl Reader<'_> {
         value: &SExpr,
     ) -> Result<Term, EvalError>
         ensures { (ds : Stated) → ReadsFor self.now ds →
-            IsInputReadAs (λ term. (plain_type inside.now, plain_term term)) result (stated.get_of ds (plain_assignment given.now).gets (plain_type inside.now, plain value.now)) }
+            IsInputReadAs (λ term. (plain_type inside.now, plain_term term)) result
+            (stated.get_of ds (plain_assignment given.now).gets
+            (plain_type inside.now, plain value.now)) }
     {
         let name = Text::from_str(self.alloc, Op::OptionGet.mk_name())?;
         if given.get(inside).is_some() {
@@ -158,7 +145,10 @@ impl Reader<'_> {
         entries: &[(TermType, &SExpr)],
     ) -> Result<(), EvalError>
         ensures { (ds : Stated) → ReadsFor self.now ds →
-            ComesToBe (λ gs. plain_assignment given.new ≡ record (plain_assignment given.old) { gets = gs }) result (stated.given_by (stated.get_of ds) (plain_assignment given.old).gets (map plain_typed entries.now)) }
+            ComesToBe
+            (λ gs. plain_assignment given.new ≡ record (plain_assignment given.old) { gets = gs })
+            result (stated.given_by (stated.get_of ds) (plain_assignment given.old).gets
+            (map plain_typed entries.now)) }
     {
         for (inside, value) in entries {
             let value = self.get_value(given, inside, value)?;
@@ -174,7 +164,8 @@ impl Reader<'_> {
         written: &WrittenTable<'_>,
     ) -> Result<(ExtOp, Udf), EvalError>
         ensures { (ds : Stated) → ReadsFor self.now ds →
-            IsInputReadAs plain_selector result (stated.selector_of ds (plain_assignment given.now).selectors (plain_written_table written.now)) }
+            IsInputReadAs plain_selector result (stated.selector_of ds
+            (plain_assignment given.now).selectors (plain_written_table written.now)) }
     {
         let Some(op) = selector_named(written.name.as_str()) else {
             return Err(unknown(written.name));
@@ -185,7 +176,7 @@ impl Reader<'_> {
         let arg = TermType::Ext {
             xty: ExtType::IpAddr,
         };
-        let out = given_type(self.alloc, op)?;
+        let out = op.result_type(self.alloc)?;
         let form = TableForm {
             arg: &arg,
             out: &out,
@@ -201,7 +192,10 @@ impl Reader<'_> {
         entries: &[WrittenTable<'_>],
     ) -> Result<(), EvalError>
         ensures { (ds : Stated) → ReadsFor self.now ds →
-            ComesToBe (λ ss. plain_assignment given.new ≡ record (plain_assignment given.old) { selectors = ss }) result (stated.given_by (stated.selector_of ds) (plain_assignment given.old).selectors (map plain_written_table entries.now)) }
+            ComesToBe (λ ss.
+            plain_assignment given.new ≡ record (plain_assignment given.old) { selectors = ss })
+            result (stated.given_by (stated.selector_of ds) (plain_assignment given.old).selectors
+            (map plain_written_table entries.now)) }
     {
         for written in entries {
             let (op, table) = self.selector_table(given, written)?;
@@ -212,7 +206,9 @@ impl Reader<'_> {
 
     /// The assignment that an input states, from the left.
     pub fn assignment(&self, written: &WrittenInput<'_>) -> Result<Assignment, EvalError>
-        ensures { (ds : Stated) → ReadsFor self.now ds → IsInputReadAs plain_assignment result (stated.assignment_of ds (plain_written written.now)) }
+        ensures { (ds : Stated) → ReadsFor self.now ds →
+            IsInputReadAs plain_assignment result
+            (stated.assignment_of ds (plain_written written.now)) }
     {
         let mut given = Assignment::new(self.alloc);
         self.enter_variables(&mut given, written.variables.as_slice())?;

@@ -1,27 +1,32 @@
 // Values and tables of values, read from the expressions that stand for them.
-ghost use Rattle.std.specs.Prelude.{◌≡◌, ◌↔◌, ◌++◌, ◌∷◌, [], List, IfOk, IsOkUnless, IsTrue, map, option_map};
+ghost use Rattle.std.specs.Prelude.{◌≡◌, ◌↔◌, ◌++◌, ◌∷◌, [], List, IfOk, IsOkUnless, IsTrue, map};
+ghost use Rattle.std.specs.Prelude.{option_map};
 ghost use Rattle.std.specs.List.{list_all};
 ghost use Rattle.std.specs.Map.{lookup};
 ghost use Rattle.std.specs.Rc.{rc_str_bytes};
 ghost use Rattle.std.specs.Result.{result_ok};
 ghost use Rattle.law_assignments.specs.Entries as stated;
-ghost use Rattle.law_assignments.specs.Outcomes.{DuplicateEntry, NoValue, UnknownEntry, unless_given};
+ghost use Rattle.law_assignments.specs.Outcomes.{DuplicateEntry, NoValue, UnknownEntry};
+ghost use Rattle.law_assignments.specs.Outcomes.{unless_given};
 ghost use Rattle.law_folding.specs.Built.{built};
 ghost use Rattle.law_jobs.specs.Declarations.{Declared as Stated};
 ghost use Rattle.law_jobs.specs.Terms.{term_of};
 ghost use Rattle.law_terms.specs.Faults.{is_string};
-ghost use Rattle.law_terms.specs.Plain.{EntityLiteral, LiteralTerm, PlainTerm, RecordTerm, record_fields, terms as in_order};
+ghost use Rattle.law_terms.specs.Plain.{EntityLiteral, LiteralTerm, PlainTerm, RecordTerm};
+ghost use Rattle.law_terms.specs.Plain.{record_fields, terms as in_order};
 ghost use Rattle.law_terms.specs.Reached.{subterms, subterms_of_all, subterms_of_fields};
 ghost use Rattle.law_terms.specs.TermOrder.{term_eq};
 ghost use Rattle.law_texts.specs.Outcomes.{demanded};
-ghost use Rattle.smt_jobs.specs.JobView.{declared_by, plain_job};
+ghost use Rattle.smt_jobs.specs.JobView.{plain_job};
+ghost use Rattle.law_jobs.specs.Jobs.{declarations_of};
 ghost use Rattle.smt_sexpr.specs.View.{plain};
 ghost use Rattle.smt_term.specs.Functions.{plain_definition};
 ghost use Rattle.smt_term.specs.Tables.{plain_entry};
-ghost use Rattle.smt_term.specs.View.{plain_fields, plain_literal, plain_term, plain_type};
-ghost use Rattle.smt_types.specs.Entities.{bytes_of_id, bytes_of_type};
-ghost use Rattle.smt_types.specs.Enums.{enums_of};
-ghost use Rattle.smt_types.specs.ExtensionView.{plain_extension_op};
+ghost use Rattle.smt_term.specs.View.{plain_fields, plain_literal, plain_term, plain_terms};
+ghost use Rattle.smt_term.specs.View.{plain_type};
+ghost use Rattle.smt_term.specs.Entities.{bytes_of_id, bytes_of_type};
+ghost use Rattle.smt_term.specs.Enums.{enums_of};
+ghost use Rattle.smt_term.specs.ExtensionView.{plain_extension_op};
 ghost use Rattle.smt_eval.specs.InputRefused.{IsInputReadAs};
 ghost use Rattle.smt_eval.specs.ReaderView.{ComesToBe, HasKeys, IsInputFault, ReadsFor, takes_key};
 ghost use Rattle.smt_eval.specs.WrittenView.{plain_pair, plain_written_table};
@@ -29,8 +34,8 @@ ghost use Rattle.smt_eval.specs.WrittenView.{plain_pair, plain_written_table};
 use crate::error::EvalError;
 use crate::evaluation::is_of_other_family;
 use crate::written::WrittenTable;
-use smt_job_declarations::{Declared, JobError};
-use smt_jobs::{Job, term_from};
+use smt_job_terms::{Declared, JobError, term_from};
+use smt_jobs::Job;
 use smt_sexpr::SExpr;
 use smt_term::{
     EntityUID, EnumTable, ExtOp, Term, TermMap, TermPrim, TermTable, TermType, Text, Udf,
@@ -92,7 +97,9 @@ fn is_string(text: &Text) -> bool
 
 /// Whether an entity of an enum type is a member, and one of no enum type has an id that strings can have.
 fn is_faultless_entity(enums: &EnumTable, entity: &EntityUID) -> bool
-    ensures { result ≡ stated.is_faultless_leaf (enums_of enums.now) (LiteralTerm (EntityLiteral (bytes_of_type entity.now.ety) (bytes_of_id entity.now.id))) }
+    ensures { result
+        ≡ stated.is_faultless_leaf (enums_of enums.now)
+        (LiteralTerm (EntityLiteral (bytes_of_type entity.now.ety) (bytes_of_id entity.now.id))) }
 {
     match enums.members_of(&entity.ety) {
         Some(members) => members.contains(&entity.id.0),
@@ -102,7 +109,8 @@ fn is_faultless_entity(enums: &EnumTable, entity: &EntityUID) -> bool
 
 /// Whether a literal is faultless by itself.
 fn is_faultless_literal(enums: &EnumTable, literal: &TermPrim) -> bool
-    ensures { result ≡ stated.is_faultless_leaf (enums_of enums.now) (LiteralTerm (plain_literal literal.now)) }
+    ensures { result
+        ≡ stated.is_faultless_leaf (enums_of enums.now) (LiteralTerm (plain_literal literal.now)) }
 {
     match literal {
         TermPrim::Entity(entity) => is_faultless_entity(enums, entity),
@@ -114,7 +122,9 @@ fn is_faultless_literal(enums: &EnumTable, literal: &TermPrim) -> bool
 /// Whether all parts of the terms are faultless.
 #[cycle(leaves)]
 fn are_faultless(enums: &EnumTable, terms: &[Term]) -> bool
-    ensures { result ≡ list_all (stated.is_faultless_leaf (enums_of enums.now)) (subterms_of_all (in_order (map plain_term terms.now))) }
+    ensures { result
+        ≡ list_all (stated.is_faultless_leaf (enums_of enums.now))
+        (subterms_of_all (in_order (plain_terms terms.now))) }
 {
     for term in terms {
         if !is_faultless(enums, term) {
@@ -127,7 +137,9 @@ fn are_faultless(enums: &EnumTable, terms: &[Term]) -> bool
 /// Whether all parts of the terms of attributes are faultless.
 #[cycle(leaves)]
 fn are_faultless_fields(enums: &EnumTable, fields: &TermMap) -> bool
-    ensures { result ≡ list_all (stated.is_faultless_leaf (enums_of enums.now)) (subterms_of_fields (record_fields (plain_fields fields.now))) }
+    ensures { result
+        ≡ list_all (stated.is_faultless_leaf (enums_of enums.now))
+        (subterms_of_fields (record_fields (plain_fields fields.now))) }
 {
     for (_, term) in fields.items() {
         if !is_faultless(enums, term) {
@@ -140,7 +152,9 @@ fn are_faultless_fields(enums: &EnumTable, fields: &TermMap) -> bool
 /// Whether all parts of a term are faultless: entities of enum types are members, and texts are such as strings can have.
 #[cycle(leaves)]
 fn is_faultless(enums: &EnumTable, term: &Term) -> bool
-    ensures { result ≡ list_all (stated.is_faultless_leaf (enums_of enums.now)) (subterms (plain_term term.now)) }
+    ensures { result
+        ≡ list_all (stated.is_faultless_leaf (enums_of enums.now))
+        (subterms (plain_term term.now)) }
 {
     match term {
         Term::App { args, .. } => are_faultless(enums, args.items()),
@@ -154,7 +168,8 @@ fn is_faultless(enums: &EnumTable, term: &Term) -> bool
 
 /// Whether a term is a value of a type: a literal of it whose parts are faultless.
 fn is_value(alloc: Global, enums: &EnumTable, ty: &TermType, term: &Term) -> Result<bool, EvalError>
-    ensures value { IfOk result (λ value. value ≡ stated.is_value (enums_of enums.now) (plain_type ty.now) (plain_term term.now)) }
+    ensures value { IfOk result (λ value.
+        value ≡ stated.is_value (enums_of enums.now) (plain_type ty.now) (plain_term term.now)) }
     ensures refusal { IsOkUnless result EvalError.Memory }
 {
     if !term.is_literal() {
@@ -193,7 +208,8 @@ pub(crate) struct Reader<'j> {
 impl<'j> Reader<'j> {
     /// The reader of values of what a job declares.
     pub fn new(alloc: Global, job: &'j Job) -> Result<Reader<'j>, EvalError>
-        ensures reads { IfOk result (λ reader. ReadsFor reader (declared_by (plain_job job.now))) }
+        ensures reads { IfOk result
+            (λ reader. ReadsFor reader (declarations_of (plain_job job.now))) }
         ensures refusal { IsOkUnless result EvalError.Memory }
     {
         match job.declared(alloc) {
@@ -208,7 +224,10 @@ impl<'j> Reader<'j> {
 
     /// The term that an expression states, as it is built, where it states one.
     fn term(&self, expression: &SExpr) -> Result<Option<Term>, EvalError>
-        ensures stated { (ds : Stated) → ReadsFor self.now ds → IfOk result (λ term. option_map plain_term term ≡ option_map built (result_ok (term_of ds (plain expression.now)))) }
+        ensures stated { (ds : Stated) → ReadsFor self.now ds →
+            IfOk result (λ term.
+            option_map plain_term term
+            ≡ option_map built (result_ok (term_of ds (plain expression.now)))) }
         ensures refusal { IsOkUnless result EvalError.Memory }
     {
         match term_from(self.alloc, &self.declared, expression) {
@@ -231,7 +250,10 @@ impl<'j> Reader<'j> {
         expression: &SExpr,
     ) -> Result<Option<Term>, EvalError>
         ensures stated { (ds : Stated) → ReadsFor self.now ds →
-            IfOk result (λ value. option_map plain_term value ≡ stated.value_in ds (plain_type ty.now) (takes_key (option_map plain_extension_op selector)) (plain expression.now)) }
+            IfOk result (λ value.
+            option_map plain_term value
+            ≡ stated.value_in ds (plain_type ty.now)
+            (takes_key (option_map plain_extension_op selector)) (plain expression.now)) }
         ensures refusal { IsOkUnless result EvalError.Memory }
     {
         let Some(term) = self.term(expression)? else {
@@ -246,7 +268,9 @@ impl<'j> Reader<'j> {
 
     /// The value of a type that an expression states in the entry of a name.
     pub fn value(&self, name: &Text, ty: &TermType, expression: &SExpr) -> Result<Term, EvalError>
-        ensures { (ds : Stated) → ReadsFor self.now ds → IsInputReadAs plain_term result (stated.value_of ds (rc_str_bytes name.now) (plain_type ty.now) (plain expression.now)) }
+        ensures { (ds : Stated) → ReadsFor self.now ds →
+            IsInputReadAs plain_term result (stated.value_of ds (rc_str_bytes name.now)
+            (plain_type ty.now) (plain expression.now)) }
     {
         match self.value_for(ty, None, expression)? {
             Some(value) => Ok(value),
@@ -257,7 +281,9 @@ impl<'j> Reader<'j> {
     /// A key of a table that it takes.
     fn key(&self, name: &Text, form: &TableForm<'_>, expression: &SExpr) -> Result<Term, EvalError>
         ensures { (ds : Stated) → ReadsFor self.now ds →
-            IsInputReadAs plain_term result (demanded (NoValue (rc_str_bytes name.now)) (stated.value_in ds (plain_type form.now.arg.now) (takes_key (option_map plain_extension_op form.now.selector)) (plain expression.now))) }
+            IsInputReadAs plain_term result (demanded (NoValue (rc_str_bytes name.now))
+            (stated.value_in ds (plain_type form.now.arg.now)
+            (takes_key (option_map plain_extension_op form.now.selector)) (plain expression.now))) }
     {
         match self.value_for(form.arg, form.selector, expression)? {
             Some(key) => Ok(key),
@@ -274,7 +300,11 @@ impl<'j> Reader<'j> {
     ) -> Result<Vec<(Term, Term)>, EvalError>
         ensures { (ds : Stated) → ReadsFor self.now ds →
             IsInputReadAs (λ pairs. map plain_entry pairs.items) result
-            (stated.given_by (stated.pair_of ds (rc_str_bytes name.now) (plain_type form.now.arg.now) (plain_type form.now.out.now) (takes_key (option_map plain_extension_op form.now.selector))) [] (map plain_pair entries.now)) }
+            (stated.given_by
+            (stated.pair_of ds (rc_str_bytes name.now) (plain_type form.now.arg.now)
+            (plain_type form.now.out.now)
+            (takes_key (option_map plain_extension_op form.now.selector)))
+            [] (map plain_pair entries.now)) }
     {
         let mut keys = BTreeSet::new(self.alloc);
         let mut pairs = Vec::new(self.alloc);
@@ -290,8 +320,10 @@ impl<'j> Reader<'j> {
     /// The table that is written, its entries in the order of their keys.
     pub fn table(&self, form: &TableForm<'_>, written: &WrittenTable<'_>) -> Result<Udf, EvalError>
         ensures { (ds : Stated) → ReadsFor self.now ds →
-            IsInputReadAs plain_definition result
-            (stated.table_of ds (plain_type form.now.arg.now) (plain_type form.now.out.now) (takes_key (option_map plain_extension_op form.now.selector)) (plain_written_table written.now)) }
+            IsInputReadAs plain_definition result (stated.table_of ds (plain_type form.now.arg.now)
+            (plain_type form.now.out.now)
+            (takes_key (option_map plain_extension_op form.now.selector))
+            (plain_written_table written.now)) }
     {
         let default = self.value(written.name, form.out, written.elsewhere)?;
         let pairs = self.pairs(written.name, form, written.entries.as_slice())?;
@@ -307,7 +339,9 @@ impl<'j> Reader<'j> {
 /// Enters a key that no pair has yet.
 fn enter_key(keys: &mut BTreeSet<Term>, name: &Text, key: &Term) -> Result<(), EvalError>
     ensures { (pairs : List (PlainTerm × PlainTerm)) → HasKeys keys.old pairs →
-        ComesToBe (λ n. (v : PlainTerm) → HasKeys keys.new (pairs ++ (plain_term key.now, v) ∷ [])) result (unless_given (lookup (term_eq (plain_term key.now)) pairs) (rc_str_bytes name.now)) }
+        ComesToBe (λ n. (v : PlainTerm) → HasKeys keys.new (pairs ++ (plain_term key.now, v) ∷ []))
+        result
+        (unless_given (lookup (term_eq (plain_term key.now)) pairs) (rc_str_bytes name.now)) }
 {
     if keys.insert(key.share()?)? {
         Ok(())

@@ -3,18 +3,18 @@ ghost use Rattle.std.specs.Prelude.{◌≡◌, IfOk, IsOkUnless, codes, map, opt
 ghost use Rattle.std.specs.Result.{result_ok};
 ghost use Rattle.law_assignments.specs.Outcomes.{FormlessInput};
 ghost use Rattle.law_assignments.specs.Written as stated;
-ghost use Rattle.law_jobs.specs.Parts as parts;
+ghost use Rattle.law_texts.specs.Parts as parts;
 ghost use Rattle.law_jobs.specs.Types.{type_of_expression};
 ghost use Rattle.law_texts.specs.Outcomes.{demanded};
-ghost use Rattle.smt_job_declarations.specs.ReadAs.{plain_list};
-ghost use Rattle.smt_sexpr.specs.View.{plain};
+ghost use Rattle.smt_sexpr.specs.View.{plain, plain_list};
 ghost use Rattle.smt_term.specs.View.{plain_type};
 ghost use Rattle.smt_eval.specs.InputRefused.{IsInputReadAs};
-ghost use Rattle.smt_eval.specs.WrittenView.{plain_named, plain_pair, plain_typed, plain_written, plain_written_table};
+ghost use Rattle.smt_eval.specs.WrittenView.{plain_named, plain_pair, plain_typed, plain_written};
+ghost use Rattle.smt_eval.specs.WrittenView.{plain_written_table};
 
 use crate::error::EvalError;
-use smt_job_declarations::{JobError, inside_of, pair_in, section, text_in, type_from};
-use smt_sexpr::SExpr;
+use smt_job_terms::{JobError, type_from};
+use smt_sexpr::{SExpr, inside_of, pair_in, section, text_in};
 use smt_term::{TermType, Text};
 use std::alloc::Global;
 
@@ -46,7 +46,8 @@ pub(crate) struct WrittenInput<'e> {
 
 /// The type that an expression states, where it states one.
 fn type_in(alloc: Global, expression: &SExpr) -> Result<Option<TermType>, EvalError>
-    ensures stated { IfOk result (λ ty. option_map plain_type ty ≡ result_ok (type_of_expression (plain expression.now))) }
+    ensures stated { IfOk result
+        (λ ty. option_map plain_type ty ≡ result_ok (type_of_expression (plain expression.now))) }
     ensures refusal { IsOkUnless result EvalError.Memory }
 {
     match type_from(alloc, expression) {
@@ -66,7 +67,8 @@ fn named_in(entry: &SExpr) -> Option<(&Text, &SExpr)>
 
 /// The entries of variables.
 fn named_all(alloc: Global, entries: &[SExpr]) -> Result<Vec<(&Text, &SExpr)>, EvalError>
-    ensures { IsInputReadAs (λ vs. map plain_named vs.items) result (demanded FormlessInput (stated.each_in stated.variable_written (plain_list entries.now))) }
+    ensures { IsInputReadAs (λ vs. map plain_named vs.items) result
+        (demanded FormlessInput (stated.each_in stated.variable_written (plain_list entries.now))) }
 {
     let mut found = Vec::new(alloc);
     for entry in entries {
@@ -78,7 +80,8 @@ fn named_all(alloc: Global, entries: &[SExpr]) -> Result<Vec<(&Text, &SExpr)>, E
 
 /// The entry of what `option.get` of none gives at an inner type.
 fn typed_in(alloc: Global, entry: &SExpr) -> Result<(TermType, &SExpr), EvalError>
-    ensures { IsInputReadAs plain_typed result (demanded FormlessInput (stated.get_written (plain entry.now))) }
+    ensures { IsInputReadAs plain_typed result
+        (demanded FormlessInput (stated.get_written (plain entry.now))) }
 {
     let (ty, value) = pair_in(entry).ok_or(EvalError::BadForm)?;
     let ty = type_in(alloc, ty)?.ok_or(EvalError::BadForm)?;
@@ -87,7 +90,8 @@ fn typed_in(alloc: Global, entry: &SExpr) -> Result<(TermType, &SExpr), EvalErro
 
 /// The entries of what `option.get` of none gives.
 fn typed_all(alloc: Global, entries: &[SExpr]) -> Result<Vec<(TermType, &SExpr)>, EvalError>
-    ensures { IsInputReadAs (λ gs. map plain_typed gs.items) result (demanded FormlessInput (stated.each_in stated.get_written (plain_list entries.now))) }
+    ensures { IsInputReadAs (λ gs. map plain_typed gs.items) result
+        (demanded FormlessInput (stated.each_in stated.get_written (plain_list entries.now))) }
 {
     let mut found = Vec::new(alloc);
     for entry in entries {
@@ -99,7 +103,8 @@ fn typed_all(alloc: Global, entries: &[SExpr]) -> Result<Vec<(TermType, &SExpr)>
 
 /// The pairs of key and value of a table.
 fn pairs_all(alloc: Global, entries: &[SExpr]) -> Result<Vec<(&SExpr, &SExpr)>, EvalError>
-    ensures { IsInputReadAs (λ ps. map plain_pair ps.items) result (demanded FormlessInput (stated.each_in parts.pair_in (plain_list entries.now))) }
+    ensures { IsInputReadAs (λ ps. map plain_pair ps.items) result
+        (demanded FormlessInput (stated.each_in parts.pair_in (plain_list entries.now))) }
 {
     let mut found = Vec::new(alloc);
     for entry in entries {
@@ -111,7 +116,8 @@ fn pairs_all(alloc: Global, entries: &[SExpr]) -> Result<Vec<(&SExpr, &SExpr)>, 
 
 /// The table of what stands in its brackets.
 fn table_inside(alloc: Global, inside: &[SExpr]) -> Result<WrittenTable<'_>, EvalError>
-    ensures { IsInputReadAs plain_written_table result (demanded FormlessInput (stated.table_inside (plain_list inside.now))) }
+    ensures { IsInputReadAs plain_written_table result
+        (demanded FormlessInput (stated.table_inside (plain_list inside.now))) }
 {
     let [name, elsewhere, entries @ ..] = inside else {
         return Err(EvalError::BadForm);
@@ -127,7 +133,8 @@ fn table_inside(alloc: Global, inside: &[SExpr]) -> Result<WrittenTable<'_>, Eva
 
 /// The entry of a function or a selector.
 fn table_in(alloc: Global, entry: &SExpr) -> Result<WrittenTable<'_>, EvalError>
-    ensures { IsInputReadAs plain_written_table result (demanded FormlessInput (stated.table_written (plain entry.now))) }
+    ensures { IsInputReadAs plain_written_table result
+        (demanded FormlessInput (stated.table_written (plain entry.now))) }
 {
     let inside = inside_of(entry).ok_or(EvalError::BadForm)?;
     table_inside(alloc, inside)
@@ -135,7 +142,8 @@ fn table_in(alloc: Global, entry: &SExpr) -> Result<WrittenTable<'_>, EvalError>
 
 /// The entries of functions or selectors.
 fn tables_all(alloc: Global, entries: &[SExpr]) -> Result<Vec<WrittenTable<'_>>, EvalError>
-    ensures { IsInputReadAs (λ ts. map plain_written_table ts.items) result (demanded FormlessInput (stated.each_in stated.table_written (plain_list entries.now))) }
+    ensures { IsInputReadAs (λ ts. map plain_written_table ts.items) result
+        (demanded FormlessInput (stated.each_in stated.table_written (plain_list entries.now))) }
 {
     let mut found = Vec::new(alloc);
     for entry in entries {
@@ -147,7 +155,9 @@ fn tables_all(alloc: Global, entries: &[SExpr]) -> Result<Vec<WrittenTable<'_>>,
 
 /// The section of variables.
 fn variables_written(alloc: Global, written: &SExpr) -> Result<Vec<(&Text, &SExpr)>, EvalError>
-    ensures { IsInputReadAs (λ vs. map plain_named vs.items) result (demanded FormlessInput (stated.entries_in (codes "vars") stated.variable_written (plain written.now))) }
+    ensures { IsInputReadAs (λ vs. map plain_named vs.items) result
+        (demanded FormlessInput
+        (stated.entries_in (codes "vars") stated.variable_written (plain written.now))) }
 {
     let entries = section("vars", written).ok_or(EvalError::BadForm)?;
     named_all(alloc, entries)
@@ -155,7 +165,9 @@ fn variables_written(alloc: Global, written: &SExpr) -> Result<Vec<(&Text, &SExp
 
 /// The section of what `option.get` of none gives.
 fn gets_written(alloc: Global, written: &SExpr) -> Result<Vec<(TermType, &SExpr)>, EvalError>
-    ensures { IsInputReadAs (λ gs. map plain_typed gs.items) result (demanded FormlessInput (stated.entries_in (codes "gets") stated.get_written (plain written.now))) }
+    ensures { IsInputReadAs (λ gs. map plain_typed gs.items) result
+        (demanded FormlessInput
+        (stated.entries_in (codes "gets") stated.get_written (plain written.now))) }
 {
     let entries = section("gets", written).ok_or(EvalError::BadForm)?;
     typed_all(alloc, entries)
@@ -167,7 +179,9 @@ fn tables_written<'e>(
     head: &str,
     written: &'e SExpr,
 ) -> Result<Vec<WrittenTable<'e>>, EvalError>
-    ensures { IsInputReadAs (λ ts. map plain_written_table ts.items) result (demanded FormlessInput (stated.entries_in head.now stated.table_written (plain written.now))) }
+    ensures { IsInputReadAs (λ ts. map plain_written_table ts.items) result
+        (demanded FormlessInput
+        (stated.entries_in head.now stated.table_written (plain written.now))) }
 {
     let entries = section(head, written).ok_or(EvalError::BadForm)?;
     tables_all(alloc, entries)
@@ -175,7 +189,8 @@ fn tables_written<'e>(
 
 /// The input of the job and the four sections behind it.
 fn sections_written(alloc: Global, inside: &[SExpr]) -> Result<WrittenInput<'_>, EvalError>
-    ensures { IsInputReadAs plain_written result (demanded FormlessInput (stated.sections_written (plain_list inside.now))) }
+    ensures { IsInputReadAs plain_written result
+        (demanded FormlessInput (stated.sections_written (plain_list inside.now))) }
 {
     let [job, variables, functions, gets, selectors] = inside else {
         return Err(EvalError::BadForm);
@@ -195,7 +210,8 @@ fn sections_written(alloc: Global, inside: &[SExpr]) -> Result<WrittenInput<'_>,
 
 /// The input that an expression is, before its job and its values are read. Its only errors are `BadForm` and `Memory`.
 pub(crate) fn input_written(alloc: Global, input: &SExpr) -> Result<WrittenInput<'_>, EvalError>
-    ensures { IsInputReadAs plain_written result (demanded FormlessInput (stated.input_written (plain input.now))) }
+    ensures { IsInputReadAs plain_written result
+        (demanded FormlessInput (stated.input_written (plain input.now))) }
 {
     let inside = section("eval", input).ok_or(EvalError::BadForm)?;
     sections_written(alloc, inside)

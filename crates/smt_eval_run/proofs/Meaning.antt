@@ -6,7 +6,7 @@ use Rattle.law_assignments.specs.Assignments.{PlainAssignment, interpretation}
 use Rattle.law_assignments.specs.Covered.{Covers, first_missing}
 use Rattle.law_assignments.specs.Entries.{assignment_of}
 use Rattle.law_assignments.specs.InputLaws.{IsEvaluable}
-use Rattle.law_assignments.specs.Inputs.{IsInput, declared_in, input_inside, unless_missing}
+use Rattle.law_assignments.specs.Inputs.{IsInput, input_inside, unless_missing}
 use Rattle.law_assignments.specs.Outcomes.{InputOutcome, FormlessInput, of_job}
 use Rattle.law_assignments.specs.Written.{WrittenInput, input_written}
 use Rattle.law_assignments.proofs.Given.{covered_is_interpretation}
@@ -17,7 +17,7 @@ use Rattle.law_assignments.proofs.Steps.{from_job, next, whatever}
 use Rattle.law_folding.specs.Built.{built}
 use Rattle.law_job_scripts.proofs.Meaning.{jobs_are_writable, writable_steps_mean}
 use Rattle.law_job_scripts.specs.JobTexts.{names_of_job, text_of_job}
-use Rattle.law_jobs.specs.Jobs.{PlainJob, built_job, fault_of, job_of}
+use Rattle.law_jobs.specs.Jobs.{PlainJob, built_job, fault_of, job_of, declarations_of}
 use Rattle.law_jobs.specs.Laws.{IsCondition}
 use Rattle.law_jobs.specs.Outcomes.{Outcome}
 use Rattle.law_jobs.specs.Steps.{Section, built_steps, current}
@@ -45,7 +45,7 @@ IsStated p = (e : Expression) × (section : Section) × (job_of e ≡ Ok (sectio
 inside_stated : (w : WrittenInput) → IfOk (input_inside w) IsStated
 inside_stated w =
     next (λ x. job_of w.job ≡ Ok x) IsStated (of_job (job_of w.job)) _ (from_job (λ x. job_of w.job ≡ Ok x) (job_of w.job) (told (λ x. job_of w.job ≡ Ok x) (job_of w.job) (λ x e. e))) (λ x e.
-    whatever IsStated (assignment_of (declared_in x.1) w) _ (λ a.
+    whatever IsStated (assignment_of (declarations_of x.1) w) _ (λ a.
     whatever IsStated (unless_missing (first_missing a (map built (current x.1.steps)))) _ (λ u. (w.job, x.0, e))))
 
 module _ (bytes : List ℕ) (job : PlainJob) (a : PlainAssignment) (is : IsInput bytes job a) where

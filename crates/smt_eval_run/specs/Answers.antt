@@ -48,7 +48,10 @@ Holds a job = IsTrue (all_true (truths_in a (current_terms job)))
 -- What a job's script says of an assignment: `holds` exactly where what it gives to the terms is carried to a model of the script.
 pub record TellsModel (a : PlainAssignment) (job : PlainJob) : Type 0 where
   pub script : MeansSteps job.enums job.steps
-  pub model : Holds a job ↔ IsModel (carry_interpretation job.enums (names_of_job job.enums (built_steps job.steps)) (restrict (interpretation a) (current_terms job))) script.means.state
+  pub model : Holds a job
+      ↔ IsModel
+      (carry_interpretation job.enums (names_of_job job.enums (built_steps job.steps)) (restrict (interpretation a) (current_terms job)))
+      script.means.state
 
 -- What `holds` is worth, of a job and an assignment.
 pub record MeansHolds (a : PlainAssignment) (job : PlainJob) : Type 0 where
@@ -59,4 +62,5 @@ pub record MeansHolds (a : PlainAssignment) (job : PlainJob) : Type 0 where
   -- and, of a job that has a script, that it is carried to a model of this
   pub model : fault_of job ≡ None → TellsModel a job
   -- then the terms are true, as they are written, in each interpretation of them that agrees with it on what the built ones reach
-  pub written : Holds a job → (J : Interpretation) → Agree (current_terms job) (interpretation a) J → IsInterpretation job.enums (current job.steps) J → AreTrue J (current job.steps)
+  pub written : Holds a job → (J : Interpretation) → Agree (current_terms job) (interpretation a) J →
+      IsInterpretation job.enums (current job.steps) J → AreTrue J (current job.steps)

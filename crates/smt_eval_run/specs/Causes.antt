@@ -12,7 +12,8 @@ use Rattle.smt_runs.specs.Runs.{Around, SinkFailed, SourceFailed}
 use Rattle.smt_eval_run.specs.declared.command.Command.{Command}
 use Rattle.smt_eval_run.specs.declared.command.Command.TheVariants.{Evaluate, Help, Version}
 use Rattle.smt_eval_run.specs.declared.refusal.InputRefusal.{InputRefusal}
-use Rattle.smt_eval_run.specs.declared.refusal.InputRefusal.TheVariants.{TooLarge, Parse, TooDeep, BadForm, Job, UnknownName, DuplicateName, NotValue, Missing}
+use Rattle.smt_eval_run.specs.declared.refusal.InputRefusal.TheVariants.{TooLarge, Parse, TooDeep, BadForm, Job, UnknownName, DuplicateName}
+use Rattle.smt_eval_run.specs.declared.refusal.InputRefusal.TheVariants.{NotValue, Missing}
 use Rattle.smt_eval_run.specs.declared.refusal.Refusal.{Refusal}
 use Rattle.smt_eval_run.specs.declared.refusal.Refusal.TheVariants.{Usage, Input, Source, Sink, Memory}
 

@@ -7,7 +7,8 @@ use Rattle.smt_script.specs.declared.sink.SinkError.TheVariants.{Fault as SinkFa
 use Rattle.smt_eval.specs.declared.error.EvalError.{EvalError}
 use Rattle.smt_eval.specs.declared.error.EvalError.TheVariants as eval
 use Rattle.smt_eval_run.specs.declared.refusal.InputRefusal.{InputRefusal}
-use Rattle.smt_eval_run.specs.declared.refusal.InputRefusal.TheVariants.{TooLarge, Parse, TooDeep, BadForm, Job, UnknownName, DuplicateName, NotValue, Missing}
+use Rattle.smt_eval_run.specs.declared.refusal.InputRefusal.TheVariants.{TooLarge, Parse, TooDeep, BadForm, Job, UnknownName, DuplicateName}
+use Rattle.smt_eval_run.specs.declared.refusal.InputRefusal.TheVariants.{NotValue, Missing}
 use Rattle.smt_eval_run.specs.declared.refusal.Refusal.{Refusal}
 use Rattle.smt_eval_run.specs.declared.refusal.Refusal.TheVariants.{Usage, Input, Source, Sink, Memory}
 

@@ -39,6 +39,8 @@ IsDone before after None = ⊥
 -- But for want of memory, and where nothing failed, an input is evaluated, what is no input is refused as such, and the text of a word is
 -- printed.
 pub record IsComplete (command : Option Command) (before after : Around) (status : ℕ) : Type 0 where
-  pub accepted : command ≡ Some Evaluate → ¬ SourceFailed before after → ¬ SinkFailed before after → IfSome before.left (λ bytes. IsAnInput bytes → (status ≡ 0) ⊎ (status ≡ 7))
-  pub rejected : command ≡ Some Evaluate → ¬ SourceFailed before after → IfSome before.left (λ bytes. IsNoInput bytes → (status ≡ 3) ⊎ (status ≡ 7))
+  pub accepted : command ≡ Some Evaluate → ¬ SourceFailed before after → ¬ SinkFailed before after →
+      IfSome before.left (λ bytes. IsAnInput bytes → (status ≡ 0) ⊎ (status ≡ 7))
+  pub rejected : command ≡ Some Evaluate → ¬ SourceFailed before after →
+      IfSome before.left (λ bytes. IsNoInput bytes → (status ≡ 3) ⊎ (status ≡ 7))
   pub printed : (command ≡ Some Help) ⊎ (command ≡ Some Version) → ¬ SinkFailed before after → (status ≡ 0) ⊎ (status ≡ 7)

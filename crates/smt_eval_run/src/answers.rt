@@ -9,7 +9,8 @@ ghost use Rattle.smt_jobs.specs.JobView.{plain_job};
 ghost use Rattle.smt_script.specs.Sink.{Rose};
 ghost use Rattle.smt_script.specs.declared.sink.SinkError.TheVariants.{Fault};
 ghost use Rattle.smt_term.specs.View.{plain_term};
-ghost use Rattle.smt_eval_run.specs.Answers.{all_true, answer_text, truth_line, truths_in, verdict_line};
+ghost use Rattle.smt_eval_run.specs.Answers.{all_true, answer_text, truth_line, truths_in};
+ghost use Rattle.smt_eval_run.specs.Answers.{verdict_line};
 
 use smt_eval::{EvalError, EvalInput, eval};
 use smt_script::{Sink, SinkError};
@@ -30,7 +31,9 @@ fn truth_in(literal: &Term) -> bool
 /// The truths of the terms that are current behind all steps of the job.
 pub(crate) fn truths_of(alloc: Global, input: &EvalInput) -> Result<Vec<bool>, EvalError>
     requires evaluable { IsEvaluable (plain_job input.now.job) (plain_assignment input.now.given) }
-    ensures truths { IfOk result (λ truths. truths.items ≡ truths_in (plain_assignment input.now.given) (current (plain_job input.now.job).steps)) }
+    ensures truths { IfOk result (λ truths.
+        truths.items
+        ≡ truths_in (plain_assignment input.now.given) (current (plain_job input.now.job).steps)) }
     ensures refusal { IsOkUnless result EvalError.Memory }
 {
     let Ok(terms) = input.job.current(alloc) else {
@@ -67,7 +70,8 @@ fn are_all(truths: &[bool]) -> bool
 
 /// Puts a line for each truth, and the last line.
 pub(crate) fn put_truths<W: Sink>(truths: &[bool], out: &mut W) -> Result<(), SinkError>
-    ensures puts { OnOk result (W.contents out.new ≡ append_known (W.contents out.old) (answer_text truths.now)) }
+    ensures puts { OnOk result
+        (W.contents out.new ≡ append_known (W.contents out.old) (answer_text truths.now)) }
     ensures cause { IsErrOf result Fault → Rose (W.faults out.old) (W.faults out.new) }
     ensures later { W.faults out.old ≤ W.faults out.new }
 {

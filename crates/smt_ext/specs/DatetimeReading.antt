@@ -72,4 +72,5 @@ clock_at text = do
 unfoldable pub stamp_at : List ℕ → Option Stamp
 stamp_at text = do
   day ← day_at text
-  if is_empty day.1 then Some (record { day = day.0; clock = None }) else clock_at day.1 >>= (λ clock. Some (record { day = day.0; clock = Some clock }))
+  if is_empty day.1 then Some (record { day = day.0; clock = None })
+      else clock_at day.1 >>= (λ clock. Some (record { day = day.0; clock = Some clock }))

@@ -2,7 +2,9 @@
 use Rattle.std.specs.Prelude.{◌≡◌, ℕ, false, List}
 use Rattle.std.specs.Rc.{rc_str_bytes}
 use Rattle.smt_ext.specs.declared.datetime.error.DatetimeError.{DatetimeError}
-use Rattle.smt_ext.specs.declared.datetime.error.DatetimeError.TheVariants.{DatetimeParseError, ChronoParseError, IntegerOverflowDuringParsing, ParseIntError, InvalidUnit, Memory}
+use Rattle.smt_ext.specs.declared.datetime.error.DatetimeError.TheVariants.{DatetimeParseError, ChronoParseError}
+use Rattle.smt_ext.specs.declared.datetime.error.DatetimeError.TheVariants.{IntegerOverflowDuringParsing, ParseIntError, InvalidUnit}
+use Rattle.smt_ext.specs.declared.datetime.error.DatetimeError.TheVariants.{Memory}
 use Rattle.smt_ext.specs.declared.datetime.stamp.Stamp.{Stamp}
 use Rattle.smt_ext.specs.DatetimeText.{HasStamp, is_barred, IsReal}
 

@@ -1,5 +1,6 @@
 -- The texts of datetimes.
-use Rattle.std.specs.Prelude.{◌≡◌, ℕ, ◌+◌, ◌*◌, ◌<◌, Bool, true, false, ◌&&◌, ◌||◌, ◌==◌, nat_lt, if◌then◌else◌, IsTrue, ℤ, pos, ◌+ℤ◌, ◌-ℤ◌, ◌*ℤ◌, Option, Some, None, unwrap_or, codes, List, [], ◌++◌}
+use Rattle.std.specs.Prelude.{◌≡◌, ℕ, ◌+◌, ◌*◌, ◌<◌, Bool, true, false, ◌&&◌, ◌||◌, ◌==◌, nat_lt, if◌then◌else◌, IsTrue, ℤ, pos, ◌+ℤ◌, ◌-ℤ◌}
+use Rattle.std.specs.Prelude.{◌*ℤ◌, Option, Some, None, unwrap_or, codes, List, [], ◌++◌}
 use Rattle.jiff.specs.Words.{IsDate, IsYmd, epoch_day}
 use Rattle.jiff.specs.Types.{Date}
 use Rattle.smt_ext.specs.declared.datetime.stamp.Day.{Day}

@@ -3,7 +3,9 @@ use Rattle.std.specs.Prelude.{◌≡◌, ℕ, ◌+◌, ◌*◌, ◌<◌, Bool, f
 use Rattle.std.specs.List.{list_all}
 use Rattle.std.specs.Rc.{rc_str_bytes}
 use Rattle.smt_ext.specs.declared.datetime.error.DatetimeError.{DatetimeError}
-use Rattle.smt_ext.specs.declared.datetime.error.DatetimeError.TheVariants.{DatetimeParseError, ChronoParseError, IntegerOverflowDuringParsing, ParseIntError, InvalidUnit, Memory}
+use Rattle.smt_ext.specs.declared.datetime.error.DatetimeError.TheVariants.{DatetimeParseError, ChronoParseError}
+use Rattle.smt_ext.specs.declared.datetime.error.DatetimeError.TheVariants.{IntegerOverflowDuringParsing, ParseIntError, InvalidUnit}
+use Rattle.smt_ext.specs.declared.datetime.error.DatetimeError.TheVariants.{Memory}
 use Rattle.smt_ext.specs.declared.datetime.span.Fault.{Fault}
 use Rattle.smt_ext.specs.declared.datetime.span.Fault.TheVariants.{Form, NoDigits, OutOfRange}
 use Rattle.smt_ext.specs.declared.datetime.span.TimeUnit.{TimeUnit}

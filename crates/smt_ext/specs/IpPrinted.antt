@@ -9,7 +9,8 @@ byte_text address low = decimal (address / 2 ^ low % 256)
 
 -- four bytes joined by dots
 abbrev pub dotted_text : ℕ → List ℕ
-dotted_text address = byte_text address 24 ++ codes "." ++ byte_text address 16 ++ codes "." ++ byte_text address 8 ++ codes "." ++ byte_text address 0
+dotted_text address =
+    byte_text address 24 ++ codes "." ++ byte_text address 16 ++ codes "." ++ byte_text address 8 ++ codes "." ++ byte_text address 0
 
 -- four lower-case hexadecimal digits
 abbrev pub group_text : ℕ → List ℕ

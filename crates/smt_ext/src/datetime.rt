@@ -1,5 +1,6 @@
 //! Moments and spans of time, in whole milliseconds.
-ghost use Rattle.std.specs.Prelude.{◌≡◌, ◌↔◌, ℤ, pos, ◌+ℤ◌, ◌-ℤ◌, ◌≤ℤ◌, ◌<ℤ◌, IsSome, IfSome, IsSomeAnd, IfOk, IfErr, IsOkAnd};
+ghost use Rattle.std.specs.Prelude.{◌≡◌, ◌↔◌, ℤ, pos, ◌+ℤ◌, ◌-ℤ◌, ◌≤ℤ◌, ◌<ℤ◌, IsSome, IfSome};
+ghost use Rattle.std.specs.Prelude.{IsSomeAnd, IfOk, IfErr, IsOkAnd};
 ghost use Rattle.smt_ext.specs.DatetimeRefusal.{HoldsText, IsDatetimeRefusal};
 ghost use Rattle.smt_ext.specs.DatetimeText.{IsDatetimeText};
 ghost use Rattle.law_numbers.specs.Longs.{IsLong};
@@ -43,7 +44,8 @@ fn with_text(alloc: Global, s: &str) -> DatetimeError
 }
 
 impl Datetime {
-    ghost use Rattle.smt_ext.specs.Milliseconds.{datetime_value, day_start, duration_value, time_of_day};
+    ghost use Rattle.smt_ext.specs.Milliseconds.{datetime_value, day_start, duration_value};
+    ghost use Rattle.smt_ext.specs.Milliseconds.{time_of_day};
 
     /// Reads `YYYY-MM-DD`, alone or followed by `Thh:mm:ss`, an optional `.SSS`, and `Z` or an
     /// offset `hhmm` behind `+` or `-`.
@@ -54,7 +56,8 @@ impl Datetime {
     /// isn't is refused with `ChronoParseError`.
     pub fn parse(alloc: Global, s: &str) -> Result<Datetime, DatetimeError>
         ensures value { IfOk result (λ d. IsDatetimeText s.now (datetime_value d)) }
-        ensures accepts { (v : ℤ) → IsDatetimeText s.now v → IsOkAnd result (λ d. datetime_value d ≡ v) }
+        ensures accepts { (v : ℤ) → IsDatetimeText s.now v →
+            IsOkAnd result (λ d. datetime_value d ≡ v) }
         ensures refused { IfErr result (λ e. IsDatetimeRefusal s.now e) }
     {
         let Some(stamp) = stamp::stamp_of(s.as_bytes()) else {
@@ -71,8 +74,10 @@ impl Datetime {
 
     /// The moment after this duration; nothing where it leaves 64 bits.
     pub fn offset(&self, duration: &Duration) -> Option<Datetime>
-        ensures value { IfSome result (λ d. datetime_value d ≡ datetime_value self.now +ℤ duration_value duration.now) }
-        ensures found { IsSome result ↔ IsLong (datetime_value self.now +ℤ duration_value duration.now) }
+        ensures value { IfSome result
+            (λ d. datetime_value d ≡ datetime_value self.now +ℤ duration_value duration.now) }
+        ensures found { IsSome result
+            ↔ IsLong (datetime_value self.now +ℤ duration_value duration.now) }
     {
         let milliseconds = self.milliseconds.checked_add(duration.milliseconds)?;
         Some(Datetime { milliseconds })
@@ -80,8 +85,10 @@ impl Datetime {
 
     /// The duration from the other moment to this one; nothing where it leaves 64 bits.
     pub fn duration_since(&self, other: &Datetime) -> Option<Duration>
-        ensures value { IfSome result (λ d. duration_value d ≡ datetime_value self.now -ℤ datetime_value other.now) }
-        ensures found { IsSome result ↔ IsLong (datetime_value self.now -ℤ datetime_value other.now) }
+        ensures value { IfSome result
+            (λ d. duration_value d ≡ datetime_value self.now -ℤ datetime_value other.now) }
+        ensures found { IsSome result
+            ↔ IsLong (datetime_value self.now -ℤ datetime_value other.now) }
     {
         let milliseconds = self.milliseconds.checked_sub(other.milliseconds)?;
         Some(Duration { milliseconds })
@@ -89,7 +96,8 @@ impl Datetime {
 
     /// The last midnight in UTC that is not after this moment; nothing where it leaves 64 bits.
     pub fn to_date(&self) -> Option<Datetime>
-        ensures value { IfSome result (λ d. datetime_value d ≡ day_start (datetime_value self.now)) }
+        ensures value { IfSome result
+            (λ d. datetime_value d ≡ day_start (datetime_value self.now)) }
         ensures found { IsSome result ↔ IsLong (day_start (datetime_value self.now)) }
     {
         let time = self.milliseconds.rem_euclid(MILLISECONDS_PER_DAY);
@@ -99,7 +107,8 @@ impl Datetime {
 
     /// The time since the last midnight in UTC, as a moment of 1970-01-01. Always there.
     pub fn to_time(&self) -> Option<Datetime>
-        ensures value { IsSomeAnd result (λ d. datetime_value d ≡ time_of_day (datetime_value self.now)) }
+        ensures value { IsSomeAnd result
+            (λ d. datetime_value d ≡ time_of_day (datetime_value self.now)) }
         ensures least { IfSome result (λ d. pos 0 ≤ℤ datetime_value d) }
         ensures most { IfSome result (λ d. datetime_value d <ℤ pos 86400000) }
     {
@@ -110,7 +119,8 @@ impl Datetime {
 }
 
 impl Duration {
-    ghost use Rattle.smt_ext.specs.Milliseconds.{duration_value, whole_days, whole_hours, whole_minutes, whole_seconds};
+    ghost use Rattle.smt_ext.specs.Milliseconds.{duration_value, whole_days, whole_hours};
+    ghost use Rattle.smt_ext.specs.Milliseconds.{whole_minutes, whole_seconds};
 
     /// Reads an optional `-` and at least one of the parts `d`, `h`, `m`, `s`, `ms` in this order,
     /// each of them digits before its unit.
@@ -121,7 +131,8 @@ impl Duration {
     /// `IntegerOverflowDuringParsing` where a part, or last the sum, leaves 64 bits.
     pub fn parse(alloc: Global, s: &str) -> Result<Duration, DatetimeError>
         ensures value { IfOk result (λ d. IsDurationText s.now (duration_value d)) }
-        ensures accepts { (v : ℤ) → IsDurationText s.now v → IsOkAnd result (λ d. duration_value d ≡ v) }
+        ensures accepts { (v : ℤ) → IsDurationText s.now v →
+            IsOkAnd result (λ d. duration_value d ≡ v) }
         ensures refused { IfErr result (λ e. IsDurationRefusal s.now e) }
     {
         match span::value_of(s.as_bytes()) {

@@ -1,8 +1,10 @@
 //! Decimal numbers with four digits behind the point.
-ghost use Rattle.std.specs.Prelude.{◌≡◌, ℕ, ℤ, ◌-◌, ◌^◌, ◌<◌, ◌≤◌, Bool, List, length, IsTrue, Some, IfOk, IfErr, IsOkAnd, IfSome, IfNone};
+ghost use Rattle.std.specs.Prelude.{◌≡◌, ℕ, ℤ, ◌-◌, ◌^◌, ◌<◌, ◌≤◌, Bool, List, length, IsTrue};
+ghost use Rattle.std.specs.Prelude.{Some, IfOk, IfErr, IsOkAnd, IfSome, IfNone};
 ghost use Rattle.std.specs.Option.{SomeIff};
 ghost use Rattle.law_texts.specs.Digits.{is_numeral};
-ghost use Rattle.smt_ext.specs.Decimal.{HasDecimalParts, ten_thousandths, IsDecimalText, IsNoDecimal, HoldsDecimalText, IsDecimalRefusal};
+ghost use Rattle.smt_ext.specs.Decimal.{HasDecimalParts, ten_thousandths, IsDecimalText};
+ghost use Rattle.smt_ext.specs.Decimal.{IsNoDecimal, HoldsDecimalText, IsDecimalRefusal};
 ghost use Rattle.law_numbers.specs.Longs.{IsLong};
 ghost use Rattle.smt_ext.specs.Printed.{decimal_text};
 
@@ -40,7 +42,8 @@ struct Parts<'a> {
 
 // The parts of a decimal's text.
 fn split_parts(text: &[u8]) -> Option<Parts<'_>>
-    ensures found { IfSome result (λ p. HasDecimalParts text.now p.negative p.whole.now p.fraction.now) }
+    ensures found { IfSome result
+        (λ p. HasDecimalParts text.now p.negative p.whole.now p.fraction.now) }
     ensures none { IfNone result ((negative : Bool) (whole fraction : List ℕ)
         → HasDecimalParts text.now negative whole fraction → ⊥) }
 {
@@ -77,7 +80,8 @@ fn magnitude(whole: &[u8], fraction: &[u8]) -> Option<u64>
     requires whole_digits { IsTrue (is_numeral whole.now) }
     requires fraction_digits { IsTrue (is_numeral fraction.now) }
     requires places { length fraction.now ≤ 4 }
-    ensures { SomeIff result (ten_thousandths whole.now fraction.now < 2 ^ 64) (ten_thousandths whole.now fraction.now) }
+    ensures { SomeIff result (ten_thousandths whole.now fraction.now < 2 ^ 64)
+        (ten_thousandths whole.now fraction.now) }
 {
     let units = digits::number(whole)?.checked_mul(10000)?;
     let rest = digits::number(fraction)?.checked_mul(last_place(fraction.len()))?;
@@ -110,7 +114,8 @@ impl Decimal {
     /// stands in its place where there is none left for the copy.
     pub fn parse(alloc: Global, s: &str) -> Result<Decimal, DecimalError>
         ensures value { IfOk result (λ d. IsDecimalText s.now d.ten_thousandths) }
-        ensures accepts { (v : ℤ) → IsDecimalText s.now v → IsOkAnd result (λ d. d.ten_thousandths ≡ v) }
+        ensures accepts { (v : ℤ) → IsDecimalText s.now v →
+            IsOkAnd result (λ d. d.ten_thousandths ≡ v) }
         ensures refused { IfErr result (λ e. IsDecimalRefusal s.now e) }
     {
         match value(s.as_bytes()) {

@@ -3,7 +3,10 @@ ghost use Rattle.std.specs.Prelude.{◌≡◌, ℤ, Ok, IfOk, IfErr, IsOkAnd};
 ghost use Rattle.smt_ext.specs.DatetimeText.{IsDatetimeText};
 ghost use Rattle.smt_ext.specs.Decimal.{IsDecimalText};
 ghost use Rattle.smt_ext.specs.DurationText.{IsDurationText};
-ghost use Rattle.smt_ext.specs.Extensions.{IsDatetime, IsDecimal, IsDuration, IsRangeText, RefusesDatetime, RefusesDecimal, RefusesDuration, RefusesRange, WritesDatetime, WritesDecimal, WritesDuration};
+ghost use Rattle.smt_ext.specs.Extensions.{IsDatetime, IsDecimal, IsDuration, IsRangeText};
+ghost use Rattle.smt_ext.specs.Extensions.{RefusesDatetime, RefusesDecimal};
+ghost use Rattle.smt_ext.specs.Extensions.{RefusesDuration, RefusesRange, WritesDatetime};
+ghost use Rattle.smt_ext.specs.Extensions.{WritesDecimal, WritesDuration};
 ghost use Rattle.smt_ext.specs.IpText.{WritesRange};
 ghost use Rattle.smt_ext.specs.IpView.{range_of};
 
@@ -154,7 +157,8 @@ impl Ext {
     /// ```
     pub fn parse_ip(alloc: Global, s: &str) -> Result<Ext, ExtParseError>
         ensures value { IfOk result (IsRangeText s.now) }
-        ensures accepts { (net : _) → WritesRange s.now (range_of net) → result ≡ Ok (Ext.Ipaddr net) }
+        ensures accepts { (net : _) → WritesRange s.now (range_of net) →
+            result ≡ Ok (Ext.Ipaddr net) }
         ensures refused { IfErr result (RefusesRange s.now) }
     {
         Ok(Ext::Ipaddr {

@@ -7,9 +7,10 @@ ghost use Rattle.smt_ext.specs.Decimal.{IsDecimalText};
 ghost use Rattle.law_numbers.specs.Longs.{IsLong};
 ghost use Rattle.smt_ext.specs.DurationRefusal.{HasFault};
 ghost use Rattle.smt_ext.specs.DurationText.{IsDurationText};
-ghost use Rattle.smt_ext.specs.Examples.{WorkedTexts};
+ghost use Rattle.smt_ext.specs.Rows.{WorkedTexts};
 ghost use Rattle.smt_ext.specs.ExtOrder.{SameExt, ext_cmp};
-ghost use Rattle.smt_ext.specs.Milliseconds.{IsLastMidnight, datetime_value, day_start, duration_value};
+ghost use Rattle.smt_ext.specs.Milliseconds.{IsLastMidnight, datetime_value, day_start};
+ghost use Rattle.smt_ext.specs.Milliseconds.{duration_value};
 ghost use Rattle.smt_ext.specs.Printed.{decimal_text};
 ghost use Rattle.smt_ext.specs.declared.datetime.Datetime.{Datetime as Moment};
 ghost use Rattle.smt_ext.specs.declared.datetime.Duration.{Duration as Span};
@@ -39,7 +40,8 @@ pub fn printed_decimals_are_read()
 
 /// A text is the text of one datetime at most, or gets one refusal.
 pub fn datetime_texts_have_one_answer()
-    ensures value { (text : List ℕ) (v w : ℤ) → IsDatetimeText text v → IsDatetimeText text w → v ≡ w }
+    ensures value { (text : List ℕ) (v w : ℤ) → IsDatetimeText text v → IsDatetimeText text w →
+        v ≡ w }
     ensures misshapen { (text : List ℕ) (v : ℤ) → IsMisshapen text → IsDatetimeText text v → ⊥ }
     ensures unreal { (text : List ℕ) (v : ℤ) → IsUnreal text → IsDatetimeText text v → ⊥ }
     ensures refusal { (text : List ℕ) → IsMisshapen text → IsUnreal text → ⊥ }
@@ -47,8 +49,10 @@ pub fn datetime_texts_have_one_answer()
 
 /// A text is the text of one duration at most, or gets one refusal.
 pub fn duration_texts_have_one_answer()
-    ensures value { (text : List ℕ) (v w : ℤ) → IsDurationText text v → IsDurationText text w → v ≡ w }
-    ensures faulty { (text : List ℕ) (v : ℤ) (f : Fault) → IsDurationText text v → HasFault text f → ⊥ }
+    ensures value { (text : List ℕ) (v w : ℤ) → IsDurationText text v → IsDurationText text w →
+        v ≡ w }
+    ensures faulty { (text : List ℕ) (v : ℤ) (f : Fault) → IsDurationText text v → HasFault text f →
+        ⊥ }
     ensures fault { (text : List ℕ) (f g : Fault) → HasFault text f → HasFault text g → f ≡ g }
 {}
 
@@ -59,12 +63,18 @@ pub fn days_start_at_midnight()
 
 /// Decimals, datetimes and durations are ordered by their numbers, and are equal where these are.
 pub fn numbers_are_ordered()
-    ensures decimals { (a b : Number) → ⟦<Decimal as Ord>⟧.cmp a b ≡ int_cmp a.ten_thousandths b.ten_thousandths }
-    ensures datetimes { (a b : Moment) → ⟦<Datetime as Ord>⟧.cmp a b ≡ int_cmp (datetime_value a) (datetime_value b) }
-    ensures durations { (a b : Span) → ⟦<Duration as Ord>⟧.cmp a b ≡ int_cmp (duration_value a) (duration_value b) }
-    ensures equal_decimals { (a b : Number) → IsTrue (⟦<Decimal as PartialEq>⟧.eq a b) ↔ (a.ten_thousandths ≡ b.ten_thousandths) }
-    ensures equal_datetimes { (a b : Moment) → IsTrue (⟦<Datetime as PartialEq>⟧.eq a b) ↔ (datetime_value a ≡ datetime_value b) }
-    ensures equal_durations { (a b : Span) → IsTrue (⟦<Duration as PartialEq>⟧.eq a b) ↔ (duration_value a ≡ duration_value b) }
+    ensures decimals { (a b : Number) →
+        ⟦<Decimal as Ord>⟧.cmp a b ≡ int_cmp a.ten_thousandths b.ten_thousandths }
+    ensures datetimes { (a b : Moment) →
+        ⟦<Datetime as Ord>⟧.cmp a b ≡ int_cmp (datetime_value a) (datetime_value b) }
+    ensures durations { (a b : Span) →
+        ⟦<Duration as Ord>⟧.cmp a b ≡ int_cmp (duration_value a) (duration_value b) }
+    ensures equal_decimals { (a b : Number) →
+        IsTrue (⟦<Decimal as PartialEq>⟧.eq a b) ↔ (a.ten_thousandths ≡ b.ten_thousandths) }
+    ensures equal_datetimes { (a b : Moment) →
+        IsTrue (⟦<Datetime as PartialEq>⟧.eq a b) ↔ (datetime_value a ≡ datetime_value b) }
+    ensures equal_durations { (a b : Span) →
+        IsTrue (⟦<Duration as PartialEq>⟧.eq a b) ↔ (duration_value a ≡ duration_value b) }
 {}
 
 /// Values of the four types are ordered by their kind, then inside it, and are equal where both agree.

@@ -1,6 +1,7 @@
 //! Ranges of both families, and which of them lies in which.
 ghost use Rattle.std.specs.Prelude.{◌≡◌, ◌≤◌, ◌/◌, ◌^◌, ◌-◌, ◌↔◌, Ok, IsTrue, IfOk, IfErr};
-ghost use Rattle.smt_ext.specs.IpRanges.{Version4, Version6, free_bits, LiesIn, IsLoopback, IsMulticast, zero_v4};
+ghost use Rattle.smt_ext.specs.IpRanges.{Version4, Version6, free_bits, LiesIn, IsLoopback};
+ghost use Rattle.smt_ext.specs.IpRanges.{IsMulticast, zero_v4};
 ghost use Rattle.smt_ext.specs.IpText.{WritesRange};
 ghost use Rattle.smt_ext.specs.IpView.{v4_range, v6_range, range_of, family_of, RefusesText};
 

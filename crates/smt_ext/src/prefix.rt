@@ -1,5 +1,6 @@
 //! Prefixes of both families.
-ghost use Rattle.std.specs.Prelude.{◌≡◌, ◌≢◌, ◌≤◌, ◌<◌, ◌↔◌, ◌==◌, true, Some, None, IsNone, IfSome, unwrap_or, option_copied};
+ghost use Rattle.std.specs.Prelude.{◌≡◌, ◌≢◌, ◌≤◌, ◌<◌, ◌↔◌, ◌==◌, true, Some, None, IsNone};
+ghost use Rattle.std.specs.Prelude.{IfSome, unwrap_or, option_copied};
 ghost use Rattle.std.specs.Option.{IsSomeAnd};
 ghost use Rattle.smt_bits.specs.BitVec.{width_of};
 ghost use Rattle.smt_bits.specs.Width.{bits_in};

@@ -1,8 +1,10 @@
 //! Texts to ranges. std reads the addresses.
-ghost use Rattle.std.specs.Prelude.{◌≡◌, ℕ, ◌≤◌, ◌++◌, Option, IfSome, IfNone, decimal, option_copied};
+ghost use Rattle.std.specs.Prelude.{◌≡◌, ℕ, ◌≤◌, ◌++◌, Option, IfSome, IfNone, decimal};
+ghost use Rattle.std.specs.Prelude.{option_copied};
 ghost use Rattle.smt_bits.specs.BitVec.{number_of};
 ghost use Rattle.smt_ext.specs.IpRanges.{Version4, Version6, Range, prefix_of};
-ghost use Rattle.smt_ext.specs.IpText.{IsDotted, IsColonText, WritesPrefix, WritesRange, behind_slash};
+ghost use Rattle.smt_ext.specs.IpText.{IsDotted, IsColonText, WritesPrefix, WritesRange};
+ghost use Rattle.smt_ext.specs.IpText.{behind_slash};
 ghost use Rattle.smt_ext.specs.IpView.{v4_bits, v6_bits, v4_range, v6_range, range_of};
 ghost use Rattle.smt_ext.specs.IpReader.{HasNo, WritesParts, is_padded};
 
@@ -58,7 +60,8 @@ fn read_count(digits: &str, most: u8) -> Option<u8>
 fn read_prefix(digits: Option<&str>, most: u8) -> Option<u8>
     ensures found { IfSome result (λ count. (count ≤ most)
         × WritesPrefix most (option_copied digits.entry) (prefix_of most count)) }
-    ensures none { IfNone result ((prefix : Option ℕ) → WritesPrefix most (option_copied digits.entry) prefix → ⊥) }
+    ensures none { IfNone result
+        ((prefix : Option ℕ) → WritesPrefix most (option_copied digits.entry) prefix → ⊥) }
 {
     match digits {
         Some(digits) => read_count(digits, most),
@@ -78,8 +81,10 @@ fn split_prefix(text: &str) -> (&str, Option<&str>)
 }
 
 fn read_v4_range(address: &str, digits: Option<&str>) -> Option<CIDRv4>
-    ensures found { IfSome result (λ range. WritesParts address.now (option_copied digits.entry) (v4_range range)) }
-    ensures none { IfNone result ((r : Range) → r.family ≡ Version4 → WritesParts address.now (option_copied digits.entry) r → ⊥) }
+    ensures found { IfSome result
+        (λ range. WritesParts address.now (option_copied digits.entry) (v4_range range)) }
+    ensures none { IfNone result ((r : Range) → r.family ≡ Version4 →
+        WritesParts address.now (option_copied digits.entry) r → ⊥) }
 {
     let addr = read_v4(address)?;
     let count = read_prefix(digits, 32)?;
@@ -88,8 +93,10 @@ fn read_v4_range(address: &str, digits: Option<&str>) -> Option<CIDRv4>
 }
 
 fn read_v6_range(address: &str, digits: Option<&str>) -> Option<CIDRv6>
-    ensures found { IfSome result (λ range. WritesParts address.now (option_copied digits.entry) (v6_range range)) }
-    ensures none { IfNone result ((r : Range) → r.family ≡ Version6 → WritesParts address.now (option_copied digits.entry) r → ⊥) }
+    ensures found { IfSome result
+        (λ range. WritesParts address.now (option_copied digits.entry) (v6_range range)) }
+    ensures none { IfNone result ((r : Range) → r.family ≡ Version6 →
+        WritesParts address.now (option_copied digits.entry) r → ⊥) }
 {
     let addr = read_v6(address)?;
     let count = read_prefix(digits, 128)?;

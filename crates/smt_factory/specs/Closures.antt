@@ -3,7 +3,7 @@ use Rattle.std.specs.Prelude.{◌≡◌, Result, Ok}
 use Rattle.law_extensions.specs.Laws.{BothRefine}
 use Rattle.law_extensions.specs.Rules.{IsRangeRule}
 use Rattle.smt_factory.specs.Pairs.{plain_pair}
-use Rattle.smt_types.specs.declared.error.TermError.{TermError}
+use Rattle.smt_term.specs.declared.error.TermError.{TermError}
 use Rattle.law_terms.specs.Plain.{PlainTerm}
 use Rattle.smt_term.specs.View.{plain_term}
 use Rattle.smt_term.specs.declared.term.Term.{Term}
@@ -22,7 +22,8 @@ abbrev pub StandsForPairs : (Term → Result (Term × Term) TermError → Type 0
 StandsForPairs answers original = (t : Term) (p : Term × Term) → answers t (Ok p) → BothRefine (plain_pair p) (original (plain_term t))
 
 -- the two calls that are handed in answer for a test and for bounds that are a rule on ranges
-pub record AreByRule (tests : Term → Result Term TermError → Type 0) (ranges : Term → Result (Term × Term) TermError → Type 0) : Type 0 where
+pub record AreByRule (tests : Term → Result Term TermError → Type 0) (ranges : Term → Result (Term × Term) TermError → Type 0) :
+    Type 0 where
   pub test : PlainTerm → PlainTerm
   pub bounds : PlainTerm → (PlainTerm × PlainTerm)
   pub stands_test : GivesRefinements tests test

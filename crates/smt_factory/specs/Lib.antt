@@ -1,4 +1,4 @@
-pub use Rattle.smt_factory_bits.specs.FoldBy
+pub use Rattle.smt_factory_core.specs.FoldBy
 pub use Rattle.smt_factory_core.specs.AnyOf
 pub use Rattle.smt_factory_core.specs.AnyRows
 pub mod Closures

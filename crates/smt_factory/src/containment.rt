@@ -1,28 +1,30 @@
 //! Which IP ranges lie in which.
 
-ghost use Rattle.std.specs.Prelude.{◌≡◌, IfOk, map};
+ghost use Rattle.std.specs.Prelude.{◌≡◌, IfOk};
 ghost use Rattle.smt_ext.specs.IpOrder.{plain_range};
 ghost use Rattle.smt_ext.specs.IpView.{range_of};
 ghost use Rattle.law_extensions.specs.Answers.{TellsContainment, TellsLoopback, TellsMulticast};
-ghost use Rattle.law_extensions.specs.ExtensionFunctions.{in_range, in_range_lit, in_range_v, is_in_range, is_ipv4, is_ipv6, is_loopback, is_multicast, range_v4, range_v6};
+ghost use Rattle.law_extensions.specs.ExtensionFunctions.{in_range, in_range_lit, in_range_v};
+ghost use Rattle.law_extensions.specs.ExtensionFunctions.{is_in_range, is_ipv4, is_ipv6};
+ghost use Rattle.law_extensions.specs.ExtensionFunctions.{is_loopback};
+ghost use Rattle.law_extensions.specs.ExtensionFunctions.{is_multicast, range_v4, range_v6};
 ghost use Rattle.law_extensions.specs.Rules.{RuleTells};
 ghost use Rattle.smt_factory.specs.Closures.{AreByRule, GivesPairs, GivesTerms, StandsForPairs};
 ghost use Rattle.smt_factory_core.specs.AnyOf.{GivesRefinements};
 ghost use Rattle.smt_factory.specs.Pairs.{lies_in, plain_pair};
 ghost use Rattle.law_folding.specs.Builder.{applied, folding};
 ghost use Rattle.law_folding.specs.FoldExtensions.{extension_literal};
-ghost use Rattle.law_folding.specs.Refinement.{Refines};
 ghost use Rattle.law_terms.specs.Formed.{IsFormed};
 ghost use Rattle.law_terms.specs.Plain.{PlainTerm};
-ghost use Rattle.smt_term.specs.View.{plain_term};
+ghost use Rattle.smt_term.specs.View.{BuildsTerm, plain_term, plain_terms};
+ghost use Rattle.smt_factory_core.specs.Results.{ResultRefines};
 
 use crate::ranges::{
     folded_range_v4, folded_range_v6, ip_term, is_ipv4, is_ipv6, range_v4, range_v6,
 };
 use crate::rule::RangeRule;
 use smt_ext::{IPNet, loop_back_cidr_v4, loop_back_cidr_v6, multicast_cidr_v4, multicast_cidr_v6};
-use smt_factory_bits::bvule;
-use smt_factory_core::{and, ite, or};
+use smt_factory_core::{and, bvule, ite, or};
 use smt_term::{Term, TermError};
 use std::alloc::Global;
 
@@ -41,11 +43,14 @@ pub fn in_range<G>(alloc: Global, range: &G, t1: Term, t2: Term) -> Result<Term,
 where
     G: Fn(Term) -> Result<(Term, Term), TermError>,
     requires { G.IsAlwaysCallable range.now }
-    ensures folded { (given : PlainTerm → (PlainTerm × PlainTerm)) → GivesPairs (G.post range.now) given →
-        IfOk result (λ r. plain_term r ≡ in_range folding given (plain_term t1) (plain_term t2)) }
-    ensures refines { (original : PlainTerm → (PlainTerm × PlainTerm)) → StandsForPairs (G.post range.now) original →
-        IfOk result (λ r. Refines (plain_term r) (in_range applied original (plain_term t1) (plain_term t2))) }
-    ensures formed { (given : PlainTerm → (PlainTerm × PlainTerm)) → GivesPairs (G.post range.now) given →
+    ensures folded { (given : PlainTerm → (PlainTerm × PlainTerm)) →
+        GivesPairs (G.post range.now) given →
+        BuildsTerm result (in_range folding given (plain_term t1) (plain_term t2)) }
+    ensures refines { (original : PlainTerm → (PlainTerm × PlainTerm)) →
+        StandsForPairs (G.post range.now) original →
+        ResultRefines result (in_range applied original (plain_term t1) (plain_term t2)) }
+    ensures formed { (given : PlainTerm → (PlainTerm × PlainTerm)) →
+        GivesPairs (G.post range.now) given →
         IfOk result (λ r. IsFormed (in_range applied given (plain_term t1) (plain_term t2))) }
 {
     let inner = range(t1)?;
@@ -54,7 +59,7 @@ where
 
 // Whether the first of two ranges lies in the second, by the lowest and the highest address of each.
 fn lies_in(alloc: Global, inner: (Term, Term), outer: (Term, Term)) -> Result<Term, TermError>
-    ensures { IfOk result (λ r. plain_term r ≡ lies_in folding (plain_pair inner) (plain_pair outer)) }
+    ensures { BuildsTerm result (lies_in folding (plain_pair inner) (plain_pair outer)) }
 {
     let (lowest1, highest1) = inner;
     let (lowest2, highest2) = outer;
@@ -89,14 +94,20 @@ where
     G: Fn(Term) -> Result<(Term, Term), TermError>,
     requires test { F.IsAlwaysCallable rule.now.is_ip }
     requires bounds { G.IsAlwaysCallable rule.now.range }
-    ensures folded { (is_ip : PlainTerm → PlainTerm) (range : PlainTerm → (PlainTerm × PlainTerm)) → GivesTerms (F.post rule.now.is_ip) is_ip → GivesPairs (G.post rule.now.range) range →
-        IfOk result (λ r. plain_term r ≡ in_range_v folding is_ip range (plain_term t) (map plain_term ts.now)) }
-    ensures refines { (is_ip : PlainTerm → PlainTerm) (range : PlainTerm → (PlainTerm × PlainTerm)) → GivesRefinements (F.post rule.now.is_ip) is_ip → StandsForPairs (G.post rule.now.range) range →
-        IfOk result (λ r. Refines (plain_term r) (in_range_v applied is_ip range (plain_term t) (map plain_term ts.now))) }
-    ensures formed { (is_ip : PlainTerm → PlainTerm) (range : PlainTerm → (PlainTerm × PlainTerm)) → GivesTerms (F.post rule.now.is_ip) is_ip → GivesPairs (G.post rule.now.range) range →
-        IfOk result (λ r. IsFormed (in_range_v applied is_ip range (plain_term t) (map plain_term ts.now))) }
+    ensures folded { (is_ip : PlainTerm → PlainTerm) (range : PlainTerm → (PlainTerm × PlainTerm)) →
+        GivesTerms (F.post rule.now.is_ip) is_ip → GivesPairs (G.post rule.now.range) range →
+        BuildsTerm result (in_range_v folding is_ip range (plain_term t) (plain_terms ts.now)) }
+    ensures refines { (is_ip : PlainTerm → PlainTerm) (range : PlainTerm → (PlainTerm × PlainTerm))
+        → GivesRefinements (F.post rule.now.is_ip) is_ip →
+        StandsForPairs (G.post rule.now.range) range →
+        ResultRefines result (in_range_v applied is_ip range (plain_term t) (plain_terms ts.now)) }
+    ensures formed { (is_ip : PlainTerm → PlainTerm) (range : PlainTerm → (PlainTerm × PlainTerm)) →
+        GivesTerms (F.post rule.now.is_ip) is_ip → GivesPairs (G.post rule.now.range) range →
+        IfOk result
+        (λ r. IsFormed (in_range_v applied is_ip range (plain_term t) (plain_terms ts.now))) }
     ensures truth { (by : AreByRule (F.post rule.now.is_ip) (G.post rule.now.range)) →
-        IfOk result (λ r. RuleTells by.test by.bounds (plain_term t) (map plain_term ts.now) (plain_term r)) }
+        IfOk result
+        (λ r. RuleTells by.test by.bounds (plain_term t) (plain_terms ts.now) (plain_term r)) }
 {
     let mut in_one = Term::from(false);
     for x in ts {
@@ -109,7 +120,8 @@ where
 
 // Whether a range is of version 4 and lies in one of the ranges that is.
 fn is_in_v4(alloc: Global, t: Term, ts: &[Term]) -> Result<Term, TermError>
-    ensures { IfOk result (λ r. plain_term r ≡ in_range_v folding (is_ipv4 folding) (range_v4 folding) (plain_term t) (map plain_term ts.now)) }
+    ensures { BuildsTerm result (in_range_v folding (is_ipv4 folding) (range_v4 folding)
+        (plain_term t) (plain_terms ts.now)) }
 {
     let is_ip = |x: Term| is_ipv4(alloc, x);
     let range = |x: Term| range_v4(alloc, x);
@@ -118,7 +130,8 @@ fn is_in_v4(alloc: Global, t: Term, ts: &[Term]) -> Result<Term, TermError>
 
 // Whether a range is of version 6 and lies in one of the ranges that is.
 fn is_in_v6(alloc: Global, t: Term, ts: &[Term]) -> Result<Term, TermError>
-    ensures { IfOk result (λ r. plain_term r ≡ in_range_v folding (is_ipv6 folding) (range_v6 folding) (plain_term t) (map plain_term ts.now)) }
+    ensures { BuildsTerm result (in_range_v folding (is_ipv6 folding) (range_v6 folding)
+        (plain_term t) (plain_terms ts.now)) }
 {
     let is_ip = |x: Term| is_ipv6(alloc, x);
     let range = |x: Term| range_v6(alloc, x);
@@ -143,9 +156,11 @@ fn is_in_v6(alloc: Global, t: Term, ts: &[Term]) -> Result<Term, TermError>
 /// # Errors
 /// `Memory`, where there is none for the term.
 pub fn is_in_range(alloc: Global, t: Term, ts: &[Term]) -> Result<Term, TermError>
-    ensures folded { IfOk result (λ r. plain_term r ≡ is_in_range folding (plain_term t) (map plain_term ts.now)) }
-    ensures refines { IfOk result (λ r. Refines (plain_term r) (is_in_range applied (plain_term t) (map plain_term ts.now))) }
-    ensures value { IfOk result (λ r. TellsContainment (plain_term t) (map plain_term ts.now) (plain_term r)) }
+    ensures folded { BuildsTerm result (is_in_range folding (plain_term t) (plain_terms ts.now)) }
+    ensures refines { ResultRefines result
+        (is_in_range applied (plain_term t) (plain_terms ts.now)) }
+    ensures value { IfOk result
+        (λ r. TellsContainment (plain_term t) (plain_terms ts.now) (plain_term r)) }
 {
     let in_v4 = is_in_v4(alloc, t.share()?, ts)?;
     or(alloc, in_v4, is_in_v6(alloc, t, ts)?)
@@ -153,7 +168,8 @@ pub fn is_in_range(alloc: Global, t: Term, ts: &[Term]) -> Result<Term, TermErro
 
 // Whether a range lies in a literal, by their addresses of version 4.
 fn is_in_block_v4(alloc: Global, t: &Term, block: IPNet) -> Result<Term, TermError>
-    ensures { IfOk result (λ r. plain_term r ≡ in_range folding (range_v4 folding) (plain_term t.now) (extension_literal (plain_range (range_of block)))) }
+    ensures { BuildsTerm result (in_range folding (range_v4 folding) (plain_term t.now)
+        (extension_literal (plain_range (range_of block)))) }
 {
     let inner = folded_range_v4(alloc, t)?;
     lies_in(alloc, inner, range_v4(alloc, ip_term(block))?)
@@ -161,7 +177,8 @@ fn is_in_block_v4(alloc: Global, t: &Term, block: IPNet) -> Result<Term, TermErr
 
 // Whether a range lies in a literal, by their addresses of version 6.
 fn is_in_block_v6(alloc: Global, t: &Term, block: IPNet) -> Result<Term, TermError>
-    ensures { IfOk result (λ r. plain_term r ≡ in_range folding (range_v6 folding) (plain_term t.now) (extension_literal (plain_range (range_of block)))) }
+    ensures { BuildsTerm result (in_range folding (range_v6 folding) (plain_term t.now)
+        (extension_literal (plain_range (range_of block)))) }
 {
     let inner = folded_range_v6(alloc, t)?;
     lies_in(alloc, inner, range_v6(alloc, ip_term(block))?)
@@ -172,8 +189,10 @@ fn is_in_block_v6(alloc: Global, t: &Term, block: IPNet) -> Result<Term, TermErr
 /// # Errors
 /// `Memory`, where there is none for the term.
 pub fn in_range_lit(alloc: Global, t: Term, cidr4: IPNet, cidr6: IPNet) -> Result<Term, TermError>
-    ensures folded { IfOk result (λ r. plain_term r ≡ in_range_lit folding (plain_term t) (plain_range (range_of cidr4)) (plain_range (range_of cidr6))) }
-    ensures refines { IfOk result (λ r. Refines (plain_term r) (in_range_lit applied (plain_term t) (plain_range (range_of cidr4)) (plain_range (range_of cidr6)))) }
+    ensures folded { BuildsTerm result (in_range_lit folding (plain_term t)
+        (plain_range (range_of cidr4)) (plain_range (range_of cidr6))) }
+    ensures refines { ResultRefines result (in_range_lit applied (plain_term t)
+        (plain_range (range_of cidr4)) (plain_range (range_of cidr6))) }
 {
     folded_in_range_lit(alloc, &t, cidr4, cidr6)
 }
@@ -185,7 +204,8 @@ fn folded_in_range_lit(
     cidr4: IPNet,
     cidr6: IPNet,
 ) -> Result<Term, TermError>
-    ensures { IfOk result (λ r. plain_term r ≡ in_range_lit folding (plain_term t.now) (plain_range (range_of cidr4)) (plain_range (range_of cidr6))) }
+    ensures { BuildsTerm result (in_range_lit folding (plain_term t.now)
+        (plain_range (range_of cidr4)) (plain_range (range_of cidr6))) }
 {
     let in_v4 = is_in_block_v4(alloc, t, cidr4)?;
     let in_v6 = is_in_block_v6(alloc, t, cidr6)?;
@@ -195,7 +215,7 @@ fn folded_in_range_lit(
 
 // Whether a range is of IPv4.
 fn is_v4(alloc: Global, t: &Term) -> Result<Term, TermError>
-    ensures { IfOk result (λ r. plain_term r ≡ is_ipv4 folding (plain_term t.now)) }
+    ensures { BuildsTerm result (is_ipv4 folding (plain_term t.now)) }
 {
     let t = t.share()?;
     is_ipv4(alloc, t)
@@ -207,8 +227,8 @@ fn is_v4(alloc: Global, t: &Term) -> Result<Term, TermError>
 /// # Errors
 /// `Memory`, where there is none for the term.
 pub fn is_loopback(alloc: Global, t: Term) -> Result<Term, TermError>
-    ensures folded { IfOk result (λ r. plain_term r ≡ is_loopback folding (plain_term t)) }
-    ensures refines { IfOk result (λ r. Refines (plain_term r) (is_loopback applied (plain_term t))) }
+    ensures folded { BuildsTerm result (is_loopback folding (plain_term t)) }
+    ensures refines { ResultRefines result (is_loopback applied (plain_term t)) }
     ensures value { IfOk result (λ r. TellsLoopback (plain_term t) (plain_term r)) }
 {
     in_range_lit(alloc, t, loop_back_cidr_v4(), loop_back_cidr_v6())
@@ -220,8 +240,8 @@ pub fn is_loopback(alloc: Global, t: Term) -> Result<Term, TermError>
 /// # Errors
 /// `Memory`, where there is none for the term.
 pub fn is_multicast(alloc: Global, t: Term) -> Result<Term, TermError>
-    ensures folded { IfOk result (λ r. plain_term r ≡ is_multicast folding (plain_term t)) }
-    ensures refines { IfOk result (λ r. Refines (plain_term r) (is_multicast applied (plain_term t))) }
+    ensures folded { BuildsTerm result (is_multicast folding (plain_term t)) }
+    ensures refines { ResultRefines result (is_multicast applied (plain_term t)) }
     ensures value { IfOk result (λ r. TellsMulticast (plain_term t) (plain_term r)) }
 {
     in_range_lit(alloc, t, multicast_cidr_v4(), multicast_cidr_v6())

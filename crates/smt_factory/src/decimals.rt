@@ -1,12 +1,12 @@
 //! Comparisons of decimals.
-ghost use Rattle.std.specs.Prelude.{◌≡◌, IfOk};
-ghost use Rattle.law_extensions.specs.ExtensionFunctions.{greater_than, greater_than_or_equal, less_than, less_than_or_equal};
+ghost use Rattle.std.specs.Prelude.{◌≡◌};
+ghost use Rattle.law_extensions.specs.ExtensionFunctions.{greater_than, greater_than_or_equal};
+ghost use Rattle.law_extensions.specs.ExtensionFunctions.{less_than, less_than_or_equal};
 ghost use Rattle.law_folding.specs.Builder.{applied, folding};
-ghost use Rattle.law_folding.specs.Refinement.{Refines};
-ghost use Rattle.smt_term.specs.View.{plain_term};
+ghost use Rattle.smt_term.specs.View.{BuildsTerm, plain_term};
+ghost use Rattle.smt_factory_core.specs.Results.{ResultRefines};
 
-use smt_factory_bits::{bvsle, bvslt};
-use smt_factory_core::ext_decimal_val;
+use smt_factory_core::{bvsle, bvslt, ext_decimal_val};
 use smt_term::{Term, TermError};
 use std::alloc::Global;
 
@@ -15,8 +15,8 @@ use std::alloc::Global;
 /// # Errors
 /// `Memory`, where there is none for the term.
 pub fn less_than(alloc: Global, t1: Term, t2: Term) -> Result<Term, TermError>
-    ensures folded { IfOk result (λ r. plain_term r ≡ less_than folding (plain_term t1) (plain_term t2)) }
-    ensures refines { IfOk result (λ r. Refines (plain_term r) (less_than applied (plain_term t1) (plain_term t2))) }
+    ensures folded { BuildsTerm result (less_than folding (plain_term t1) (plain_term t2)) }
+    ensures refines { ResultRefines result (less_than applied (plain_term t1) (plain_term t2)) }
 {
     bvslt(
         alloc,
@@ -30,8 +30,10 @@ pub fn less_than(alloc: Global, t1: Term, t2: Term) -> Result<Term, TermError>
 /// # Errors
 /// `Memory`, where there is none for the term.
 pub fn less_than_or_equal(alloc: Global, t1: Term, t2: Term) -> Result<Term, TermError>
-    ensures folded { IfOk result (λ r. plain_term r ≡ less_than_or_equal folding (plain_term t1) (plain_term t2)) }
-    ensures refines { IfOk result (λ r. Refines (plain_term r) (less_than_or_equal applied (plain_term t1) (plain_term t2))) }
+    ensures folded { BuildsTerm result
+        (less_than_or_equal folding (plain_term t1) (plain_term t2)) }
+    ensures refines { ResultRefines result
+        (less_than_or_equal applied (plain_term t1) (plain_term t2)) }
 {
     bvsle(
         alloc,
@@ -45,14 +47,10 @@ pub fn less_than_or_equal(alloc: Global, t1: Term, t2: Term) -> Result<Term, Ter
 /// # Errors
 /// `Memory`, where there is none for the term.
 pub fn greater_than(alloc: Global, t1: Term, t2: Term) -> Result<Term, TermError>
-    ensures folded { IfOk result (λ r. plain_term r ≡ greater_than folding (plain_term t1) (plain_term t2)) }
-    ensures refines { IfOk result (λ r. Refines (plain_term r) (greater_than applied (plain_term t1) (plain_term t2))) }
+    ensures folded { BuildsTerm result (greater_than folding (plain_term t1) (plain_term t2)) }
+    ensures refines { ResultRefines result (greater_than applied (plain_term t1) (plain_term t2)) }
 {
-    bvslt(
-        alloc,
-        ext_decimal_val(alloc, t2)?,
-        ext_decimal_val(alloc, t1)?,
-    )
+    less_than(alloc, t2, t1)
 }
 
 /// Whether the first decimal is at least the second.
@@ -60,12 +58,10 @@ pub fn greater_than(alloc: Global, t1: Term, t2: Term) -> Result<Term, TermError
 /// # Errors
 /// `Memory`, where there is none for the term.
 pub fn greater_than_or_equal(alloc: Global, t1: Term, t2: Term) -> Result<Term, TermError>
-    ensures folded { IfOk result (λ r. plain_term r ≡ greater_than_or_equal folding (plain_term t1) (plain_term t2)) }
-    ensures refines { IfOk result (λ r. Refines (plain_term r) (greater_than_or_equal applied (plain_term t1) (plain_term t2))) }
+    ensures folded { BuildsTerm result
+        (greater_than_or_equal folding (plain_term t1) (plain_term t2)) }
+    ensures refines { ResultRefines result
+        (greater_than_or_equal applied (plain_term t1) (plain_term t2)) }
 {
-    bvsle(
-        alloc,
-        ext_decimal_val(alloc, t2)?,
-        ext_decimal_val(alloc, t1)?,
-    )
+    less_than_or_equal(alloc, t2, t1)
 }

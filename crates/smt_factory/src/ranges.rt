@@ -5,23 +5,24 @@ ghost use Rattle.std.specs.Prelude.{◌≡◌, ◌<◌, ◌≤◌, ◌-◌, ◌^
 ghost use Rattle.smt_bits.specs.Width.{bits_in};
 ghost use Rattle.smt_ext.specs.IpOrder.{plain_range};
 ghost use Rattle.smt_ext.specs.IpView.{range_of};
-ghost use Rattle.law_extensions.specs.ExtensionFunctions.{is_ipv4, is_ipv6, lowest_address, range_by, range_v4, range_v6, subnet_width};
+ghost use Rattle.law_extensions.specs.ExtensionFunctions.{is_ipv4, is_ipv6, lowest_address};
+ghost use Rattle.law_extensions.specs.ExtensionFunctions.{range_by, range_v4, range_v6};
+ghost use Rattle.law_extensions.specs.ExtensionFunctions.{subnet_width};
 ghost use Rattle.law_extensions.specs.Laws.{BothRefine};
 ghost use Rattle.smt_factory.specs.Pairs.{last_from, plain_pair};
 ghost use Rattle.law_folding.specs.Applications.{bits_literal};
 ghost use Rattle.law_folding.specs.Builder.{applied, folding};
 ghost use Rattle.law_folding.specs.FoldExtensions.{extension_literal};
-ghost use Rattle.law_folding.specs.Refinement.{Refines};
 ghost use Rattle.law_terms.specs.Plain.{BitVecType, IpPrefixV4Op, IpPrefixV6Op, OptionType};
 ghost use Rattle.law_terms.specs.Types.{type_of};
-ghost use Rattle.smt_term.specs.View.{plain_term};
+ghost use Rattle.smt_term.specs.View.{BuildsTerm, plain_term};
+ghost use Rattle.smt_factory_core.specs.Results.{ResultRefines};
 
 use smt_bits::{BitVec, FIVE, HUNDRED_TWENTY_EIGHT, SEVEN, THIRTY_TWO, Width};
 use smt_ext::IPNet;
-use smt_factory_bits::{bvadd, bvlshr, bvshl, bvsub, zero_extend};
 use smt_factory_core::{
-    ext_ipaddr_addr_v4, ext_ipaddr_addr_v6, ext_ipaddr_is_v4, ext_ipaddr_prefix_v4,
-    ext_ipaddr_prefix_v6, is_none, ite, not, option_get,
+    bvadd, bvlshr, bvshl, bvsub, ext_ipaddr_addr_v4, ext_ipaddr_addr_v6, ext_ipaddr_is_v4,
+    ext_ipaddr_prefix_v4, ext_ipaddr_prefix_v6, is_none, ite, not, option_get, zero_extend,
 };
 use smt_term::{Ext, Term, TermError};
 use std::alloc::Global;
@@ -39,8 +40,8 @@ pub fn ip_term(ip: IPNet) -> Term
 /// # Errors
 /// `Memory`, where there is none for the term.
 pub fn is_ipv4(alloc: Global, t: Term) -> Result<Term, TermError>
-    ensures folded { IfOk result (λ r. plain_term r ≡ is_ipv4 folding (plain_term t)) }
-    ensures refines { IfOk result (λ r. Refines (plain_term r) (is_ipv4 applied (plain_term t))) }
+    ensures folded { BuildsTerm result (is_ipv4 folding (plain_term t)) }
+    ensures refines { ResultRefines result (is_ipv4 applied (plain_term t)) }
 {
     ext_ipaddr_is_v4(alloc, t)
 }
@@ -50,8 +51,8 @@ pub fn is_ipv4(alloc: Global, t: Term) -> Result<Term, TermError>
 /// # Errors
 /// `Memory`, where there is none for the term.
 pub fn is_ipv6(alloc: Global, t: Term) -> Result<Term, TermError>
-    ensures folded { IfOk result (λ r. plain_term r ≡ is_ipv6 folding (plain_term t)) }
-    ensures refines { IfOk result (λ r. Refines (plain_term r) (is_ipv6 applied (plain_term t))) }
+    ensures folded { BuildsTerm result (is_ipv6 folding (plain_term t)) }
+    ensures refines { ResultRefines result (is_ipv6 applied (plain_term t)) }
 {
     not(alloc, is_ipv4(alloc, t)?)
 }
@@ -80,7 +81,8 @@ fn literal(width: Width, number: u32) -> Term
 fn counted_bits(alloc: Global, w: Width, prefix: &Term) -> Result<Term, TermError>
     requires width { bits_in w ≤ 7 }
     requires option { type_of (plain_term prefix.now) ≡ OptionType (BitVecType (bits_in w)) }
-    ensures { IfOk result (λ r. plain_term r ≡ folding.zero_extend (2 ^ bits_in w - bits_in w) (folding.option_get (plain_term prefix.now))) }
+    ensures { BuildsTerm result (folding.zero_extend (2 ^ bits_in w - bits_in w)
+        (folding.option_get (plain_term prefix.now))) }
 {
     let more = address_width(w).get() - w.get();
     zero_extend(alloc, more, option_get(alloc, prefix.share()?)?)
@@ -97,8 +99,8 @@ fn counted_bits(alloc: Global, w: Width, prefix: &Term) -> Result<Term, TermErro
 pub fn subnet_width(alloc: Global, w: Width, prefix: Term) -> Result<Term, TermError>
     requires width { bits_in w ≤ 7 }
     requires option { type_of (plain_term prefix) ≡ OptionType (BitVecType (bits_in w)) }
-    ensures folded { IfOk result (λ r. plain_term r ≡ subnet_width folding (bits_in w) (plain_term prefix)) }
-    ensures refines { IfOk result (λ r. Refines (plain_term r) (subnet_width applied (bits_in w) (plain_term prefix))) }
+    ensures folded { BuildsTerm result (subnet_width folding (bits_in w) (plain_term prefix)) }
+    ensures refines { ResultRefines result (subnet_width applied (bits_in w) (plain_term prefix)) }
 {
     folded_subnet_width(alloc, w, &prefix)
 }
@@ -107,7 +109,7 @@ pub fn subnet_width(alloc: Global, w: Width, prefix: Term) -> Result<Term, TermE
 fn folded_subnet_width(alloc: Global, w: Width, prefix: &Term) -> Result<Term, TermError>
     requires width { bits_in w ≤ 7 }
     requires option { type_of (plain_term prefix.now) ≡ OptionType (BitVecType (bits_in w)) }
-    ensures { IfOk result (λ r. plain_term r ≡ subnet_width folding (bits_in w) (plain_term prefix.now)) }
+    ensures { BuildsTerm result (subnet_width folding (bits_in w) (plain_term prefix.now)) }
 {
     let bits = address_width(w);
     let counted = counted_bits(alloc, w, prefix)?;
@@ -118,7 +120,8 @@ fn folded_subnet_width(alloc: Global, w: Width, prefix: &Term) -> Result<Term, T
 
 // An address with its free bits cleared.
 fn lowest_address(alloc: Global, address: &Term, free: &Term) -> Result<Term, TermError>
-    ensures { IfOk result (λ r. plain_term r ≡ lowest_address folding (plain_term address.now) (plain_term free.now)) }
+    ensures { BuildsTerm result
+        (lowest_address folding (plain_term address.now) (plain_term free.now)) }
 {
     let kept = bvlshr(alloc, address.share()?, free.share()?)?;
     bvshl(alloc, kept, free.share()?)
@@ -126,7 +129,8 @@ fn lowest_address(alloc: Global, address: &Term, free: &Term) -> Result<Term, Te
 
 // The last address of so many free bits from the lowest one on.
 fn last_address(alloc: Global, width: Width, lowest: &Term, free: &Term) -> Result<Term, TermError>
-    ensures { IfOk result (λ r. plain_term r ≡ last_from (bits_in width) (plain_term lowest.now) (plain_term free.now)) }
+    ensures { BuildsTerm result
+        (last_from (bits_in width) (plain_term lowest.now) (plain_term free.now)) }
 {
     let size = bvshl(alloc, literal(width, 1), free.share()?)?;
     let behind = bvadd(alloc, lowest.share()?, size)?;
@@ -140,7 +144,9 @@ fn range_by(
     address: &Term,
     free: &Term,
 ) -> Result<(Term, Term), TermError>
-    ensures { IfOk result (λ r. plain_pair r ≡ range_by folding (bits_in width) (plain_term address.now) (plain_term free.now)) }
+    ensures { IfOk result (λ r.
+        plain_pair r
+        ≡ range_by folding (bits_in width) (plain_term address.now) (plain_term free.now)) }
 {
     let lowest = lowest_address(alloc, address, free)?;
     let highest = last_address(alloc, width, &lowest, free)?;
@@ -153,14 +159,16 @@ fn range_by(
 /// `Memory`, where there is none for the terms.
 pub fn range_v4(alloc: Global, t: Term) -> Result<(Term, Term), TermError>
     ensures folded { IfOk result (λ r. plain_pair r ≡ range_v4 folding (plain_term t)) }
-    ensures refines { IfOk result (λ r. BothRefine (plain_pair r) (range_v4 applied (plain_term t))) }
+    ensures refines { IfOk result
+        (λ r. BothRefine (plain_pair r) (range_v4 applied (plain_term t))) }
 {
     folded_range_v4(alloc, &t)
 }
 
 // How many last bits of an IPv4 range's address are free.
 fn free_bits_v4(alloc: Global, t: &Term) -> Result<Term, TermError>
-    ensures { IfOk result (λ r. plain_term r ≡ subnet_width folding 5 (folding.extension IpPrefixV4Op (plain_term t.now))) }
+    ensures { BuildsTerm result
+        (subnet_width folding 5 (folding.extension IpPrefixV4Op (plain_term t.now))) }
 {
     let prefix = ext_ipaddr_prefix_v4(alloc, t.share()?)?;
     subnet_width(alloc, FIVE, prefix)
@@ -181,14 +189,16 @@ pub(crate) fn folded_range_v4(alloc: Global, t: &Term) -> Result<(Term, Term), T
 /// `Memory`, where there is none for the terms.
 pub fn range_v6(alloc: Global, t: Term) -> Result<(Term, Term), TermError>
     ensures folded { IfOk result (λ r. plain_pair r ≡ range_v6 folding (plain_term t)) }
-    ensures refines { IfOk result (λ r. BothRefine (plain_pair r) (range_v6 applied (plain_term t))) }
+    ensures refines { IfOk result
+        (λ r. BothRefine (plain_pair r) (range_v6 applied (plain_term t))) }
 {
     folded_range_v6(alloc, &t)
 }
 
 // How many last bits of an IPv6 range's address are free.
 fn free_bits_v6(alloc: Global, t: &Term) -> Result<Term, TermError>
-    ensures { IfOk result (λ r. plain_term r ≡ subnet_width folding 7 (folding.extension IpPrefixV6Op (plain_term t.now))) }
+    ensures { BuildsTerm result
+        (subnet_width folding 7 (folding.extension IpPrefixV6Op (plain_term t.now))) }
 {
     let prefix = ext_ipaddr_prefix_v6(alloc, t.share()?)?;
     subnet_width(alloc, SEVEN, prefix)

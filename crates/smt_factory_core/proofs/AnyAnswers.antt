@@ -11,7 +11,7 @@ use Rattle.law_folding.specs.Refinement.{Refines}
 use Rattle.law_folding.proofs.CompositesStand.{stands_any}
 use Rattle.law_terms.specs.Plain.{PlainTerm}
 use Rattle.smt_term.specs.View.{plain_term}
-use Rattle.smt_types.specs.declared.error.TermError.{TermError}
+use Rattle.smt_term.specs.declared.error.TermError.{TermError}
 use Rattle.smt_term.specs.declared.term.Term.{Term}
 
 module _ (answers : Term → Result Term TermError → Type 0) where

@@ -17,7 +17,7 @@ use Rattle.law_terms.specs.Typing.{Typed}
 use Rattle.law_terms.specs.TypeValues.{Enums}
 use Rattle.law_terms.specs.Values.{BoolValue}
 use Rattle.smt_term.specs.View.{plain_term, plain_term-Prim}
-use Rattle.smt_types.specs.declared.error.TermError.{TermError}
+use Rattle.smt_term.specs.declared.error.TermError.{TermError}
 use Rattle.smt_term.specs.declared.term.Term.{Term, Prim}
 use Rattle.smt_term.specs.declared.term.TermPrim.TheVariants.{Bool as TruthLiteral}
 

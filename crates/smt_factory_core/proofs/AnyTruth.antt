@@ -19,7 +19,7 @@ use Rattle.law_terms.specs.Reached.{subterms, subterms_of_all}
 use Rattle.law_terms.specs.Tables.{Interpretation}
 use Rattle.law_terms.specs.Typing.{Typed, AreBoolean}
 use Rattle.law_terms.specs.TypeValues.{Enums}
-use Rattle.smt_types.specs.declared.error.TermError.{TermError}
+use Rattle.smt_term.specs.declared.error.TermError.{TermError}
 use Rattle.smt_term.specs.declared.term.Term.{Term}
 use Rattle.law_terms.proofs.Defaults.{all-join}
 use Rattle.smt_term.proofs.FormedTerms.{terms_are_formed}

@@ -19,12 +19,12 @@ use Rattle.law_terms.specs.Types.{attribute_type, type_of}
 use Rattle.law_terms.specs.Typing.{AreTyped}
 use Rattle.law_terms.specs.ValueOrder.{text_cmp}
 use Rattle.law_terms.proofs.ValueOrder.{text_same}
-use Rattle.smt_types.specs.SortedPairs.{AreLastPairs, sorted_pairs}
-use Rattle.smt_types.proofs.LastPairs.{last_pairs}
+use Rattle.smt_term.specs.SortedPairs.{AreLastPairs, sorted_pairs}
+use Rattle.smt_term.proofs.LastPairs.{last_pairs}
 use Rattle.smt_term.specs.View.{plain_field, plain_fields, plain_term, plain_term-Record}
 use Rattle.smt_term.specs.declared.maps.TermMap.{TermMap}
 use Rattle.smt_term.specs.declared.term.Term.{Term, Record}
-use Rattle.smt_types.proofs.RecordTypes.{attribute_found}
+use Rattle.smt_term.proofs.RecordTypes.{attribute_found}
 
 -- ---- the record of pairs
 

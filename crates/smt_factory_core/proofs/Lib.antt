@@ -1,6 +1,8 @@
+pub mod Answers
 pub mod AnyAnswers
 pub mod AnyRows
 pub mod AnyTruth
+pub mod Folding
 pub mod FoldingConnectives
 pub mod FoldingEquality
 pub mod FoldingExtensions
@@ -11,3 +13,6 @@ pub mod FoldingPresence
 pub mod FoldingRecords
 pub mod FoldingSets
 pub mod FoldingStrings
+pub mod Matching
+pub mod OutOfRange
+pub mod Values

@@ -13,7 +13,7 @@ use Rattle.law_terms.specs.Typing.{Typed}
 use Rattle.law_terms.specs.TypeValues.{Enums}
 use Rattle.law_terms.specs.Values.{BoolValue}
 use Rattle.smt_term.specs.View.{plain_term}
-use Rattle.smt_types.specs.declared.error.TermError.{TermError}
+use Rattle.smt_term.specs.declared.error.TermError.{TermError}
 use Rattle.smt_term.specs.declared.term.Term.{Term}
 
 -- the call may answer at a term that says t one that says u
@@ -44,5 +44,6 @@ pub record IsTrueWhereOneIs (answers : Term → Result Term TermError → Type 0
   pub given : List PlainTerm
   pub each : AllZip (IsAnswer answers) ts given
   pub type : Typed r BoolType
-  pub value : (enums : Enums) (I : Interpretation) → IsInterpretation enums given I → term_value I r ≡ BoolValue (list_any (λ u. truth (term_value I u)) given)
+  pub value : (enums : Enums) (I : Interpretation) → IsInterpretation enums given I →
+      term_value I r ≡ BoolValue (list_any (λ u. truth (term_value I u)) given)
   pub reached : ReachNoMore (r ∷ []) given

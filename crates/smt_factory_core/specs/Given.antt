@@ -3,7 +3,9 @@ use Rattle.std.specs.Prelude.{ℕ, cond, ◌==◌, Option, Some, None}
 use Rattle.law_numbers.specs.BitVectors.{signed}
 use Rattle.law_folding.specs.Applications.{true_term, false_term, bits_literal}
 use Rattle.law_folding.specs.FoldExtensions.{extension_literal, prefix_literal, signed_literal}
-use Rattle.law_terms.specs.Plain.{ExtensionOp, DatetimeOfBitVecOp, DatetimeValOp, DecimalValOp, DurationOfBitVecOp, DurationValOp, IpAddrV4Op, IpAddrV6Op, IpIsV4Op, IpPrefixV4Op, IpPrefixV6Op, PlainExtension, DecimalOf, Ipv4Of, Ipv6Of, DatetimeOf, DurationOf, BitVecLiteral, ExtensionLiteral, PlainTerm, LiteralTerm}
+use Rattle.law_terms.specs.Plain.{ExtensionOp, DatetimeOfBitVecOp, DatetimeValOp, DecimalValOp, DurationOfBitVecOp, DurationValOp}
+use Rattle.law_terms.specs.Plain.{IpAddrV4Op, IpAddrV6Op, IpIsV4Op, IpPrefixV4Op, IpPrefixV6Op, PlainExtension, DecimalOf, Ipv4Of, Ipv6Of}
+use Rattle.law_terms.specs.Plain.{DatetimeOf, DurationOf, BitVecLiteral, ExtensionLiteral, PlainTerm, LiteralTerm}
 
 -- what an operator gives of a value, where it is an operator of the value's kind and family
 abbrev pub part_of : ExtensionOp → PlainExtension → Option PlainTerm

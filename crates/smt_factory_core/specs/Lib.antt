@@ -1,3 +1,5 @@
 pub mod AnyOf
 pub mod AnyRows
+pub mod FoldBy
 pub mod Given
+pub mod Results

@@ -3,12 +3,13 @@
 
 ghost use Rattle.std.specs.List.{AllByRecursion};
 ghost use Rattle.std.specs.Prelude.{IfOk, map};
-ghost use Rattle.smt_factory_core.specs.AnyOf.{GivesBooleans, GivesRefinements, IsAnyOf, IsTrueWhereOneIs};
+ghost use Rattle.smt_factory_core.specs.AnyOf.{GivesBooleans, GivesRefinements, IsAnyOf};
+ghost use Rattle.smt_factory_core.specs.AnyOf.{IsTrueWhereOneIs};
 ghost use Rattle.law_folding.specs.Builder.{applied};
 ghost use Rattle.law_folding.specs.Composites.{any_of};
-ghost use Rattle.law_folding.specs.Refinement.{Refines};
 ghost use Rattle.law_terms.specs.Plain.{PlainTerm};
-ghost use Rattle.smt_term.specs.View.{plain_term};
+ghost use Rattle.smt_term.specs.View.{plain_term, plain_terms};
+ghost use Rattle.smt_factory_core.specs.Results.{ResultRefines};
 
 use crate::connectives::or;
 use smt_term::{Term, TermError};
@@ -28,11 +29,12 @@ pub fn any_true<F>(alloc: Global, f: &F, ts: &[Term]) -> Result<Term, TermError>
 where
     F: Fn(Term) -> Result<Term, TermError>,
     requires { F.IsAlwaysCallable f.now }
-    ensures folded { IfOk result (λ r. IsAnyOf (F.post f.now) (map plain_term ts.now) (plain_term r)) }
-    ensures refines { (original : PlainTerm → PlainTerm) → GivesRefinements (F.post f.now) original →
-        IfOk result (λ r. Refines (plain_term r) (any_of applied (map original (map plain_term ts.now)))) }
-    ensures truth { AllByRecursion (GivesBooleans (F.post f.now)) (map plain_term ts.now) →
-        IfOk result (λ r. IsTrueWhereOneIs (F.post f.now) (map plain_term ts.now) (plain_term r)) }
+    ensures folded { IfOk result (λ r. IsAnyOf (F.post f.now) (plain_terms ts.now) (plain_term r)) }
+    ensures refines { (original : PlainTerm → PlainTerm) →
+        GivesRefinements (F.post f.now) original →
+        ResultRefines result (any_of applied (map original (plain_terms ts.now))) }
+    ensures truth { AllByRecursion (GivesBooleans (F.post f.now)) (plain_terms ts.now) →
+        IfOk result (λ r. IsTrueWhereOneIs (F.post f.now) (plain_terms ts.now) (plain_term r)) }
 {
     let mut any = Term::from(false);
     for t in ts {

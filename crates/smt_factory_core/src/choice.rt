@@ -1,15 +1,14 @@
 //! Choice of the theory Core.
 #![tactic(auto, using(crate::proofs::FoldingEquality::choosing))]
 
-ghost use Rattle.std.specs.Prelude.{◌≡◌, IfOk};
+ghost use Rattle.std.specs.Prelude.{◌≡◌};
 ghost use Rattle.law_folding.specs.Applications.{ite_of};
 ghost use Rattle.law_folding.specs.FoldEquality.{folded_ite, folded_ite_inside};
-ghost use Rattle.law_folding.specs.Refinement.{Refines};
-ghost use Rattle.smt_term.specs.View.{plain_term};
+ghost use Rattle.smt_term.specs.View.{BuildsTerm, plain_term};
+ghost use Rattle.smt_factory_core.specs.Results.{ResultRefines};
 
 use crate::pairs::both_held;
-use crate::{and, not, or};
-use smt_factory_bits::{are_equal, is_truth_value, some_of, ternary_application};
+use crate::{and, are_equal, is_truth_value, not, or, some_of, ternary_application};
 use smt_term::{Op, Term, TermError};
 use std::alloc::Global;
 
@@ -22,15 +21,18 @@ use std::alloc::Global;
 /// # Errors
 /// `Memory`, where there is none for the term.
 pub fn ite(alloc: Global, t1: Term, t2: Term, t3: Term) -> Result<Term, TermError>
-    ensures folded { IfOk result (λ r. plain_term r ≡ folded_ite (plain_term t1) (plain_term t2) (plain_term t3)) }
-    ensures refines { IfOk result (λ r. Refines (plain_term r) (ite_of (plain_term t1) (plain_term t2) (plain_term t3))) }
+    ensures folded { BuildsTerm result
+        (folded_ite (plain_term t1) (plain_term t2) (plain_term t3)) }
+    ensures refines { ResultRefines result
+        (ite_of (plain_term t1) (plain_term t2) (plain_term t3)) }
 {
     folded_ite(alloc, &t1, &t2, &t3)
 }
 
 // The choice, folded.
 fn folded_ite(alloc: Global, t1: &Term, t2: &Term, t3: &Term) -> Result<Term, TermError>
-    ensures { IfOk result (λ r. plain_term r ≡ folded_ite (plain_term t1.now) (plain_term t2.now) (plain_term t3.now)) }
+    ensures { BuildsTerm result
+        (folded_ite (plain_term t1.now) (plain_term t2.now) (plain_term t3.now)) }
 {
     match both_held(t2, t3) {
         Some((held2, held3)) => some_of(alloc, ite_inside(alloc, t1, held2, held3)?),
@@ -41,7 +43,8 @@ fn folded_ite(alloc: Global, t1: &Term, t2: &Term, t3: &Term) -> Result<Term, Te
 // Choice, where what two `some` hold has been taken out.
 #[tactic(auto)]
 fn ite_inside(alloc: Global, t1: &Term, t2: &Term, t3: &Term) -> Result<Term, TermError>
-    ensures { IfOk result (λ r. plain_term r ≡ folded_ite_inside (plain_term t1.now) (plain_term t2.now) (plain_term t3.now)) }
+    ensures { BuildsTerm result
+        (folded_ite_inside (plain_term t1.now) (plain_term t2.now) (plain_term t3.now)) }
 {
     if is_truth_value(t1, true) || are_equal(t2, t3) {
         return t2.share();

@@ -1,23 +1,25 @@
 //! The connectives of the theory Core.
 #![tactic(auto, using(crate::proofs::FoldingConnectives::folding))]
 
-ghost use Rattle.std.specs.Prelude.{◌≡◌, IfOk, MatchOption, None, Some};
+ghost use Rattle.std.specs.Prelude.{◌≡◌, MatchOption, None, Some};
 ghost use Rattle.law_folding.specs.Applications.{and_of, not_of, or_of};
 ghost use Rattle.law_folding.specs.Builder.{applied, folding};
 ghost use Rattle.law_folding.specs.Composites.{implies};
-ghost use Rattle.law_folding.specs.FoldConnectives.{are_opposites, is_negation, folded_and, folded_not, folded_or};
+ghost use Rattle.law_folding.specs.FoldConnectives.{are_opposites, is_negation, folded_and};
+ghost use Rattle.law_folding.specs.FoldConnectives.{folded_not, folded_or};
 ghost use Rattle.law_folding.specs.Parts.{negated};
-ghost use Rattle.law_folding.specs.Refinement.{Refines};
-ghost use Rattle.smt_term.specs.View.{plain_term};
+ghost use Rattle.smt_term.specs.View.{BuildsTerm, plain_term};
+ghost use Rattle.smt_factory_core.specs.Results.{ResultRefines};
 
-use smt_factory_bits::{are_equal, binary_test, is_truth_value, only_one, unary_test};
+use crate::{are_equal, binary_test, is_truth_value, only_one, unary_test};
 use smt_term::{Op, Term, TermError};
 use std::alloc::Global;
 
 // What a negation is of.
 #[tactic(auto, using(smt_term::specs::View::views))]
 fn negated(t: &Term) -> Option<&Term>
-    ensures { MatchOption result (negated (plain_term t.now) ≡ None) (λ u. negated (plain_term t.now) ≡ Some (plain_term u.now)) }
+    ensures { MatchOption result (negated (plain_term t.now) ≡ None)
+        (λ u. negated (plain_term t.now) ≡ Some (plain_term u.now)) }
 {
     match t {
         Term::App { op, args, .. } => match op {
@@ -55,15 +57,15 @@ pub fn opposites(t1: &Term, t2: &Term) -> bool
 /// # Errors
 /// `Memory`, where there is none for the term.
 pub fn not(alloc: Global, t: Term) -> Result<Term, TermError>
-    ensures folded { IfOk result (λ r. plain_term r ≡ folded_not (plain_term t)) }
-    ensures refines { IfOk result (λ r. Refines (plain_term r) (not_of (plain_term t))) }
+    ensures folded { BuildsTerm result (folded_not (plain_term t)) }
+    ensures refines { ResultRefines result (not_of (plain_term t)) }
 {
     folded_not(alloc, &t)
 }
 
 // The negation, folded. By reference, as each folding: what is let go at several exits is dear to prove.
 fn folded_not(alloc: Global, t: &Term) -> Result<Term, TermError>
-    ensures { IfOk result (λ r. plain_term r ≡ folded_not (plain_term t.now)) }
+    ensures { BuildsTerm result (folded_not (plain_term t.now)) }
 {
     if is_truth_value(t, true) {
         return Ok(Term::from(false));
@@ -98,8 +100,8 @@ fn folded_not(alloc: Global, t: &Term) -> Result<Term, TermError>
 /// # Errors
 /// `Memory`, where there is none for the term.
 pub fn and(alloc: Global, t1: Term, t2: Term) -> Result<Term, TermError>
-    ensures folded { IfOk result (λ r. plain_term r ≡ folded_and (plain_term t1) (plain_term t2)) }
-    ensures refines { IfOk result (λ r. Refines (plain_term r) (and_of (plain_term t1) (plain_term t2))) }
+    ensures folded { BuildsTerm result (folded_and (plain_term t1) (plain_term t2)) }
+    ensures refines { ResultRefines result (and_of (plain_term t1) (plain_term t2)) }
 {
     folded_and(alloc, &t1, &t2)
 }
@@ -107,7 +109,7 @@ pub fn and(alloc: Global, t1: Term, t2: Term) -> Result<Term, TermError>
 // The conjunction, folded.
 #[tactic(auto)]
 fn folded_and(alloc: Global, t1: &Term, t2: &Term) -> Result<Term, TermError>
-    ensures { IfOk result (λ r. plain_term r ≡ folded_and (plain_term t1.now) (plain_term t2.now)) }
+    ensures { BuildsTerm result (folded_and (plain_term t1.now) (plain_term t2.now)) }
 {
     if are_equal(t1, t2) || is_truth_value(t2, true) {
         return t1.share();
@@ -129,8 +131,8 @@ fn folded_and(alloc: Global, t1: &Term, t2: &Term) -> Result<Term, TermError>
 /// # Errors
 /// `Memory`, where there is none for the term.
 pub fn or(alloc: Global, t1: Term, t2: Term) -> Result<Term, TermError>
-    ensures folded { IfOk result (λ r. plain_term r ≡ folded_or (plain_term t1) (plain_term t2)) }
-    ensures refines { IfOk result (λ r. Refines (plain_term r) (or_of (plain_term t1) (plain_term t2))) }
+    ensures folded { BuildsTerm result (folded_or (plain_term t1) (plain_term t2)) }
+    ensures refines { ResultRefines result (or_of (plain_term t1) (plain_term t2)) }
 {
     folded_or(alloc, &t1, &t2)
 }
@@ -138,7 +140,7 @@ pub fn or(alloc: Global, t1: Term, t2: Term) -> Result<Term, TermError>
 // The disjunction, folded.
 #[tactic(auto)]
 fn folded_or(alloc: Global, t1: &Term, t2: &Term) -> Result<Term, TermError>
-    ensures { IfOk result (λ r. plain_term r ≡ folded_or (plain_term t1.now) (plain_term t2.now)) }
+    ensures { BuildsTerm result (folded_or (plain_term t1.now) (plain_term t2.now)) }
 {
     if are_equal(t1, t2) || is_truth_value(t2, false) {
         return t1.share();
@@ -157,8 +159,8 @@ fn folded_or(alloc: Global, t1: &Term, t2: &Term) -> Result<Term, TermError>
 /// # Errors
 /// `Memory`, where there is none for the term.
 pub fn implies(alloc: Global, t1: Term, t2: Term) -> Result<Term, TermError>
-    ensures folded { IfOk result (λ r. plain_term r ≡ implies folding (plain_term t1) (plain_term t2)) }
-    ensures refines { IfOk result (λ r. Refines (plain_term r) (implies applied (plain_term t1) (plain_term t2))) }
+    ensures folded { BuildsTerm result (implies folding (plain_term t1) (plain_term t2)) }
+    ensures refines { ResultRefines result (implies applied (plain_term t1) (plain_term t2)) }
 {
     or(alloc, not(alloc, t1)?, t2)
 }

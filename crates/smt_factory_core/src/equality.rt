@@ -1,18 +1,17 @@
 //! Equality of the theory Core.
 
-ghost use Rattle.std.specs.Prelude.{◌≡◌, ◌&&◌, IfOk};
+ghost use Rattle.std.specs.Prelude.{◌≡◌, ◌&&◌};
 ghost use Rattle.law_folding.specs.Applications.{eq_of, truth_literal};
 ghost use Rattle.law_folding.specs.FoldEquality.{folded_eq, folded_eq_inside, is_boolean};
-ghost use Rattle.law_folding.specs.Refinement.{Refines};
 ghost use Rattle.law_terms.specs.Literals.{is_literal};
 ghost use Rattle.law_terms.specs.Plain.{BoolType};
 ghost use Rattle.law_terms.specs.TermOrder.{term_eq};
 ghost use Rattle.law_terms.specs.Types.{literal_type, type_eq};
-ghost use Rattle.smt_term.specs.View.{plain_literal, plain_term, plain_type};
+ghost use Rattle.smt_term.specs.View.{BuildsTerm, plain_literal, plain_term};
+ghost use Rattle.smt_factory_core.specs.Results.{ResultRefines};
 
-use crate::not;
 use crate::pairs::{are_some_and_none, both_held};
-use smt_factory_bits::{are_equal, binary_test, is_truth_value};
+use crate::{are_equal, binary_test, is_truth_value, not};
 use smt_term::{Op, Term, TermError, TermPrim, TermType};
 use std::alloc::Global;
 
@@ -47,7 +46,8 @@ fn are_literals(t1: &Term, t2: &Term) -> bool
 
 // Whether the first is this literal, and the second a Boolean term.
 fn is_beside_boolean(truth: bool, t1: &Term, t2: &Term) -> bool
-    ensures { result ≡ (term_eq (plain_term t1.now) (truth_literal truth) && is_boolean (plain_term t2.now)) }
+    ensures { result
+        ≡ (term_eq (plain_term t1.now) (truth_literal truth) && is_boolean (plain_term t2.now)) }
 {
     is_truth_value(t1, truth) && is_boolean(t2)
 }
@@ -71,8 +71,8 @@ fn is_beside_boolean(truth: bool, t1: &Term, t2: &Term) -> bool
 /// `Memory`, where there is none for the term.
 #[tactic(auto, using(crate::proofs::FoldingEquality::comparing))]
 pub fn eq(alloc: Global, t1: Term, t2: Term) -> Result<Term, TermError>
-    ensures folded { IfOk result (λ r. plain_term r ≡ folded_eq (plain_term t1) (plain_term t2)) }
-    ensures refines { IfOk result (λ r. Refines (plain_term r) (eq_of (plain_term t1) (plain_term t2))) }
+    ensures folded { BuildsTerm result (folded_eq (plain_term t1) (plain_term t2)) }
+    ensures refines { ResultRefines result (eq_of (plain_term t1) (plain_term t2)) }
 {
     folded_eq(alloc, &t1, &t2)
 }
@@ -80,7 +80,7 @@ pub fn eq(alloc: Global, t1: Term, t2: Term) -> Result<Term, TermError>
 // The equality, folded.
 #[tactic(auto, using(crate::proofs::FoldingEquality::comparing))]
 fn folded_eq(alloc: Global, t1: &Term, t2: &Term) -> Result<Term, TermError>
-    ensures { IfOk result (λ r. plain_term r ≡ folded_eq (plain_term t1.now) (plain_term t2.now)) }
+    ensures { BuildsTerm result (folded_eq (plain_term t1.now) (plain_term t2.now)) }
 {
     if let Some((held1, held2)) = both_held(t1, t2) {
         return eq_inside(alloc, held1, held2);
@@ -93,7 +93,7 @@ fn folded_eq(alloc: Global, t1: &Term, t2: &Term) -> Result<Term, TermError>
 
 // Equality, where what `some` and none hold has been looked at.
 fn eq_inside(alloc: Global, t1: &Term, t2: &Term) -> Result<Term, TermError>
-    ensures { IfOk result (λ r. plain_term r ≡ folded_eq_inside (plain_term t1.now) (plain_term t2.now)) }
+    ensures { BuildsTerm result (folded_eq_inside (plain_term t1.now) (plain_term t2.now)) }
 {
     if are_equal(t1, t2) {
         return Ok(Term::from(true));

@@ -1,19 +1,19 @@
 //! The calls of the operators of the extension types.
 #![tactic(auto, using(smt_term::specs::View::views, crate::proofs::FoldingExtensions::extending))]
 
-ghost use Rattle.std.specs.Prelude.{◌≡◌, IfOk};
+ghost use Rattle.std.specs.Prelude.{◌≡◌};
 ghost use Rattle.law_folding.specs.Applications.{extension_of};
 ghost use Rattle.law_folding.specs.FoldExtensions.{folded_extension};
-ghost use Rattle.law_folding.specs.Refinement.{Refines};
-ghost use Rattle.smt_types.specs.ExtensionView.{plain_extension_op};
-ghost use Rattle.law_terms.specs.Plain.{DatetimeOfBitVecOp, DatetimeValOp, DecimalValOp, DurationOfBitVecOp, DurationValOp, IpAddrV4Op, IpAddrV6Op, IpIsV4Op, IpPrefixV4Op, IpPrefixV6Op};
-ghost use Rattle.law_terms.specs.Types.{extension_signature};
-ghost use Rattle.smt_term.specs.View.{plain_term, plain_type};
+ghost use Rattle.smt_term.specs.ExtensionView.{plain_extension_op};
+ghost use Rattle.law_terms.specs.Plain.{DatetimeOfBitVecOp, DatetimeValOp, DecimalValOp};
+ghost use Rattle.law_terms.specs.Plain.{DurationOfBitVecOp, DurationValOp, IpAddrV4Op};
+ghost use Rattle.law_terms.specs.Plain.{IpAddrV6Op, IpIsV4Op, IpPrefixV4Op, IpPrefixV6Op};
+ghost use Rattle.smt_term.specs.View.{BuildsTerm, plain_term};
+ghost use Rattle.smt_factory_core.specs.Results.{ResultRefines};
 
 use crate::literals::given;
-use smt_bits::{FIVE, HUNDRED_TWENTY_EIGHT, SEVEN, SIXTY_FOUR, THIRTY_TWO};
-use smt_factory_bits::unary_application;
-use smt_term::{ExtOp, ExtType, Op, Term, TermError, TermType};
+use crate::unary_application;
+use smt_term::{ExtOp, Op, Term, TermError};
 use std::alloc::Global;
 
 /// An operator of the extension types at a term, folded where the term is a literal that it takes: a selector folds at a literal
@@ -22,43 +22,19 @@ use std::alloc::Global;
 /// # Errors
 /// `Memory`, where there is none for the term.
 pub fn extension(alloc: Global, op: ExtOp, t: Term) -> Result<Term, TermError>
-    ensures folded { IfOk result (λ r. plain_term r ≡ folded_extension (plain_extension_op op) (plain_term t)) }
-    ensures refines { IfOk result (λ r. Refines (plain_term r) (extension_of (plain_extension_op op) (plain_term t))) }
+    ensures folded { BuildsTerm result (folded_extension (plain_extension_op op) (plain_term t)) }
+    ensures refines { ResultRefines result (extension_of (plain_extension_op op) (plain_term t)) }
 {
     folded_extension(alloc, op, &t)
 }
 
 // An operator at a term, folded.
 fn folded_extension(alloc: Global, op: ExtOp, t: &Term) -> Result<Term, TermError>
-    ensures { IfOk result (λ r. plain_term r ≡ folded_extension (plain_extension_op op) (plain_term t.now)) }
+    ensures { BuildsTerm result (folded_extension (plain_extension_op op) (plain_term t.now)) }
 {
     match given(alloc, op, t)? {
         Some(r) => Ok(r),
-        None => unary_application(alloc, Op::Ext(op), t, type_given(alloc, op)?),
-    }
-}
-
-// The type that an operator gives.
-fn type_given(alloc: Global, op: ExtOp) -> Result<TermType, TermError>
-    ensures { IfOk result (λ ty. plain_type ty ≡ (extension_signature (plain_extension_op op)).1) }
-{
-    match op {
-        ExtOp::DatetimeOfBitVec => Ok(TermType::Ext {
-            xty: ExtType::DateTime,
-        }),
-        ExtOp::DurationOfBitVec => Ok(TermType::Ext {
-            xty: ExtType::Duration,
-        }),
-        ExtOp::DatetimeVal | ExtOp::DecimalVal | ExtOp::DurationVal => {
-            Ok(TermType::Bitvec { n: SIXTY_FOUR })
-        }
-        ExtOp::IpaddrAddrV4 => Ok(TermType::Bitvec { n: THIRTY_TWO }),
-        ExtOp::IpaddrAddrV6 => Ok(TermType::Bitvec {
-            n: HUNDRED_TWENTY_EIGHT,
-        }),
-        ExtOp::IpaddrIsV4 => Ok(TermType::Bool),
-        ExtOp::IpaddrPrefixV4 => TermType::option_of(alloc, TermType::Bitvec { n: FIVE }),
-        ExtOp::IpaddrPrefixV6 => TermType::option_of(alloc, TermType::Bitvec { n: SEVEN }),
+        None => unary_application(alloc, Op::Ext(op), t, op.result_type(alloc)?),
     }
 }
 
@@ -67,8 +43,8 @@ fn type_given(alloc: Global, op: ExtOp) -> Result<TermType, TermError>
 /// # Errors
 /// `Memory`, where there is none for the term.
 pub fn ext_decimal_val(alloc: Global, t: Term) -> Result<Term, TermError>
-    ensures folded { IfOk result (λ r. plain_term r ≡ folded_extension DecimalValOp (plain_term t)) }
-    ensures refines { IfOk result (λ r. Refines (plain_term r) (extension_of DecimalValOp (plain_term t))) }
+    ensures folded { BuildsTerm result (folded_extension DecimalValOp (plain_term t)) }
+    ensures refines { ResultRefines result (extension_of DecimalValOp (plain_term t)) }
 {
     extension(alloc, ExtOp::DecimalVal, t)
 }
@@ -78,8 +54,8 @@ pub fn ext_decimal_val(alloc: Global, t: Term) -> Result<Term, TermError>
 /// # Errors
 /// `Memory`, where there is none for the term.
 pub fn ext_datetime_val(alloc: Global, t: Term) -> Result<Term, TermError>
-    ensures folded { IfOk result (λ r. plain_term r ≡ folded_extension DatetimeValOp (plain_term t)) }
-    ensures refines { IfOk result (λ r. Refines (plain_term r) (extension_of DatetimeValOp (plain_term t))) }
+    ensures folded { BuildsTerm result (folded_extension DatetimeValOp (plain_term t)) }
+    ensures refines { ResultRefines result (extension_of DatetimeValOp (plain_term t)) }
 {
     extension(alloc, ExtOp::DatetimeVal, t)
 }
@@ -89,8 +65,8 @@ pub fn ext_datetime_val(alloc: Global, t: Term) -> Result<Term, TermError>
 /// # Errors
 /// `Memory`, where there is none for the term.
 pub fn ext_duration_val(alloc: Global, t: Term) -> Result<Term, TermError>
-    ensures folded { IfOk result (λ r. plain_term r ≡ folded_extension DurationValOp (plain_term t)) }
-    ensures refines { IfOk result (λ r. Refines (plain_term r) (extension_of DurationValOp (plain_term t))) }
+    ensures folded { BuildsTerm result (folded_extension DurationValOp (plain_term t)) }
+    ensures refines { ResultRefines result (extension_of DurationValOp (plain_term t)) }
 {
     extension(alloc, ExtOp::DurationVal, t)
 }
@@ -100,8 +76,8 @@ pub fn ext_duration_val(alloc: Global, t: Term) -> Result<Term, TermError>
 /// # Errors
 /// `Memory`, where there is none for the term.
 pub fn ext_ipaddr_is_v4(alloc: Global, t: Term) -> Result<Term, TermError>
-    ensures folded { IfOk result (λ r. plain_term r ≡ folded_extension IpIsV4Op (plain_term t)) }
-    ensures refines { IfOk result (λ r. Refines (plain_term r) (extension_of IpIsV4Op (plain_term t))) }
+    ensures folded { BuildsTerm result (folded_extension IpIsV4Op (plain_term t)) }
+    ensures refines { ResultRefines result (extension_of IpIsV4Op (plain_term t)) }
 {
     extension(alloc, ExtOp::IpaddrIsV4, t)
 }
@@ -111,8 +87,8 @@ pub fn ext_ipaddr_is_v4(alloc: Global, t: Term) -> Result<Term, TermError>
 /// # Errors
 /// `Memory`, where there is none for the term.
 pub fn ext_ipaddr_addr_v4(alloc: Global, t: Term) -> Result<Term, TermError>
-    ensures folded { IfOk result (λ r. plain_term r ≡ folded_extension IpAddrV4Op (plain_term t)) }
-    ensures refines { IfOk result (λ r. Refines (plain_term r) (extension_of IpAddrV4Op (plain_term t))) }
+    ensures folded { BuildsTerm result (folded_extension IpAddrV4Op (plain_term t)) }
+    ensures refines { ResultRefines result (extension_of IpAddrV4Op (plain_term t)) }
 {
     extension(alloc, ExtOp::IpaddrAddrV4, t)
 }
@@ -123,8 +99,8 @@ pub fn ext_ipaddr_addr_v4(alloc: Global, t: Term) -> Result<Term, TermError>
 /// # Errors
 /// `Memory`, where there is none for the term.
 pub fn ext_ipaddr_prefix_v4(alloc: Global, t: Term) -> Result<Term, TermError>
-    ensures folded { IfOk result (λ r. plain_term r ≡ folded_extension IpPrefixV4Op (plain_term t)) }
-    ensures refines { IfOk result (λ r. Refines (plain_term r) (extension_of IpPrefixV4Op (plain_term t))) }
+    ensures folded { BuildsTerm result (folded_extension IpPrefixV4Op (plain_term t)) }
+    ensures refines { ResultRefines result (extension_of IpPrefixV4Op (plain_term t)) }
 {
     extension(alloc, ExtOp::IpaddrPrefixV4, t)
 }
@@ -134,8 +110,8 @@ pub fn ext_ipaddr_prefix_v4(alloc: Global, t: Term) -> Result<Term, TermError>
 /// # Errors
 /// `Memory`, where there is none for the term.
 pub fn ext_ipaddr_addr_v6(alloc: Global, t: Term) -> Result<Term, TermError>
-    ensures folded { IfOk result (λ r. plain_term r ≡ folded_extension IpAddrV6Op (plain_term t)) }
-    ensures refines { IfOk result (λ r. Refines (plain_term r) (extension_of IpAddrV6Op (plain_term t))) }
+    ensures folded { BuildsTerm result (folded_extension IpAddrV6Op (plain_term t)) }
+    ensures refines { ResultRefines result (extension_of IpAddrV6Op (plain_term t)) }
 {
     extension(alloc, ExtOp::IpaddrAddrV6, t)
 }
@@ -146,8 +122,8 @@ pub fn ext_ipaddr_addr_v6(alloc: Global, t: Term) -> Result<Term, TermError>
 /// # Errors
 /// `Memory`, where there is none for the term.
 pub fn ext_ipaddr_prefix_v6(alloc: Global, t: Term) -> Result<Term, TermError>
-    ensures folded { IfOk result (λ r. plain_term r ≡ folded_extension IpPrefixV6Op (plain_term t)) }
-    ensures refines { IfOk result (λ r. Refines (plain_term r) (extension_of IpPrefixV6Op (plain_term t))) }
+    ensures folded { BuildsTerm result (folded_extension IpPrefixV6Op (plain_term t)) }
+    ensures refines { ResultRefines result (extension_of IpPrefixV6Op (plain_term t)) }
 {
     extension(alloc, ExtOp::IpaddrPrefixV6, t)
 }
@@ -157,8 +133,8 @@ pub fn ext_ipaddr_prefix_v6(alloc: Global, t: Term) -> Result<Term, TermError>
 /// # Errors
 /// `Memory`, where there is none for the term.
 pub fn ext_datetime_of_bitvec(alloc: Global, t: Term) -> Result<Term, TermError>
-    ensures folded { IfOk result (λ r. plain_term r ≡ folded_extension DatetimeOfBitVecOp (plain_term t)) }
-    ensures refines { IfOk result (λ r. Refines (plain_term r) (extension_of DatetimeOfBitVecOp (plain_term t))) }
+    ensures folded { BuildsTerm result (folded_extension DatetimeOfBitVecOp (plain_term t)) }
+    ensures refines { ResultRefines result (extension_of DatetimeOfBitVecOp (plain_term t)) }
 {
     extension(alloc, ExtOp::DatetimeOfBitVec, t)
 }
@@ -168,8 +144,8 @@ pub fn ext_datetime_of_bitvec(alloc: Global, t: Term) -> Result<Term, TermError>
 /// # Errors
 /// `Memory`, where there is none for the term.
 pub fn ext_duration_of_bitvec(alloc: Global, t: Term) -> Result<Term, TermError>
-    ensures folded { IfOk result (λ r. plain_term r ≡ folded_extension DurationOfBitVecOp (plain_term t)) }
-    ensures refines { IfOk result (λ r. Refines (plain_term r) (extension_of DurationOfBitVecOp (plain_term t))) }
+    ensures folded { BuildsTerm result (folded_extension DurationOfBitVecOp (plain_term t)) }
+    ensures refines { ResultRefines result (extension_of DurationOfBitVecOp (plain_term t)) }
 {
     extension(alloc, ExtOp::DurationOfBitVec, t)
 }

@@ -4,16 +4,16 @@
 ghost use Rattle.std.specs.Prelude.{◌≡◌, IfOk, map};
 ghost use Rattle.law_folding.specs.AppOf.{IsAppOf};
 ghost use Rattle.law_folding.specs.Builder.{folding};
-ghost use Rattle.law_folding.specs.FoldFunctions.{app_of, choice_among, entry_at, folded_app, uuf_of};
-ghost use Rattle.law_folding.specs.Refinement.{Refines};
+ghost use Rattle.law_folding.specs.FoldFunctions.{app_of, choice_among, entry_at, folded_app};
+ghost use Rattle.law_folding.specs.FoldFunctions.{uuf_of};
 ghost use Rattle.smt_term.specs.Functions.{plain_definition, plain_unary};
 ghost use Rattle.smt_term.specs.Tables.{plain_entry};
 ghost use Rattle.law_terms.specs.Functions.{HasLiteralKeys, IsTypedFunction, argument_type};
 ghost use Rattle.law_terms.specs.Typing.{Typed};
-ghost use Rattle.smt_term.specs.View.{plain_function, plain_term};
+ghost use Rattle.smt_term.specs.View.{BuildsTerm, plain_function, plain_term};
+ghost use Rattle.smt_factory_core.specs.Results.{ResultRefines};
 
-use crate::{eq, ite};
-use smt_factory_bits::unary_application;
+use crate::{eq, ite, unary_application};
 use smt_term::{Op, Term, TermError, Udf, UnaryFunction, Uuf};
 use std::alloc::Global;
 use std::rc::Rc;
@@ -30,9 +30,11 @@ use std::rc::Rc;
 /// # Errors
 /// `Memory`, where there is none for the term.
 pub fn app(alloc: Global, f: UnaryFunction, t: Term) -> Result<Term, TermError>
-    ensures folded { IfOk result (λ r. plain_term r ≡ folded_app (plain_unary f) (plain_term t)) }
-    ensures refines { HasLiteralKeys (plain_unary f) → IfOk result (λ r. Refines (plain_term r) (app_of (plain_unary f) (plain_term t))) }
-    ensures value { HasLiteralKeys (plain_unary f) → IsTypedFunction (plain_unary f) → Typed (plain_term t) (argument_type (plain_unary f)) →
+    ensures folded { BuildsTerm result (folded_app (plain_unary f) (plain_term t)) }
+    ensures refines { HasLiteralKeys (plain_unary f) →
+        ResultRefines result (app_of (plain_unary f) (plain_term t)) }
+    ensures value { HasLiteralKeys (plain_unary f) → IsTypedFunction (plain_unary f) →
+        Typed (plain_term t) (argument_type (plain_unary f)) →
         IfOk result (λ r. IsAppOf (plain_unary f) (plain_term t) (plain_term r)) }
 {
     folded_app(alloc, &f, &t)
@@ -40,7 +42,7 @@ pub fn app(alloc: Global, f: UnaryFunction, t: Term) -> Result<Term, TermError>
 
 // A function at a term, folded.
 fn folded_app(alloc: Global, f: &UnaryFunction, t: &Term) -> Result<Term, TermError>
-    ensures { IfOk result (λ r. plain_term r ≡ folded_app (plain_unary f.now) (plain_term t.now)) }
+    ensures { BuildsTerm result (folded_app (plain_unary f.now) (plain_term t.now)) }
 {
     match f {
         UnaryFunction::Uuf(function) => uninterpreted(alloc, function, t),
@@ -55,7 +57,7 @@ fn folded_app(alloc: Global, f: &UnaryFunction, t: &Term) -> Result<Term, TermEr
 
 // The application of a function that an interpretation gives.
 fn uninterpreted(alloc: Global, function: &Rc<Uuf>, t: &Term) -> Result<Term, TermError>
-    ensures { IfOk result (λ r. plain_term r ≡ uuf_of (plain_function function.now.value) (plain_term t.now)) }
+    ensures { BuildsTerm result (uuf_of (plain_function function.now.value) (plain_term t.now)) }
 {
     let ty = function.out.share()?;
     unary_application(alloc, Op::Uuf(function.clone()?), t, ty)
@@ -63,7 +65,7 @@ fn uninterpreted(alloc: Global, function: &Rc<Uuf>, t: &Term) -> Result<Term, Te
 
 // The term of the entry that has a term as its key, and else the default.
 fn entry(function: &Udf, t: &Term) -> Result<Term, TermError>
-    ensures { IfOk result (λ r. plain_term r ≡ entry_at (plain_definition function.now) (plain_term t.now)) }
+    ensures { BuildsTerm result (entry_at (plain_definition function.now) (plain_term t.now)) }
 {
     match function.table.get(t) {
         Some(value) => value.share(),
@@ -79,7 +81,8 @@ fn choice(
     default: &Term,
     t: &Term,
 ) -> Result<Term, TermError>
-    ensures { IfOk result (λ r. plain_term r ≡ choice_among folding (map plain_entry entries.now) (plain_term default.now) (plain_term t.now)) }
+    ensures { BuildsTerm result (choice_among folding (map plain_entry entries.now)
+        (plain_term default.now) (plain_term t.now)) }
 {
     let mut rest = default.share()?;
     for place in (0..entries.len()).rev() {

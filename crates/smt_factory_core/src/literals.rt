@@ -11,18 +11,19 @@ ghost use Rattle.smt_ext.specs.IpView.{range_of};
 ghost use Rattle.law_folding.specs.FoldExtensions.{prefix_literal};
 ghost use Rattle.law_numbers.specs.BitVectors.{signed};
 ghost use Rattle.law_terms.specs.Plain.{DatetimeOf, DecimalOf, DurationOf, LiteralTerm};
-ghost use Rattle.smt_types.specs.ExtensionView.{plain_extension_op};
-ghost use Rattle.smt_term.specs.View.{plain_literal, plain_term};
+ghost use Rattle.smt_term.specs.ExtensionView.{plain_extension_op};
+ghost use Rattle.smt_term.specs.View.{BuildsTerm, plain_literal, plain_term};
 
+use crate::{none_of, some_of};
 use smt_bits::{BitVec, FIVE, SEVEN, SIXTY_FOUR, Width};
 use smt_ext::{Datetime, Duration, IPNet};
-use smt_factory_bits::{none_of, some_of};
 use smt_term::{Ext, ExtOp, Term, TermError, TermPrim, TermType};
 use std::alloc::Global;
 
 // What an operator gives at a term, where it folds there.
 pub(crate) fn given(alloc: Global, op: ExtOp, t: &Term) -> Result<Option<Term>, TermError>
-    ensures { IfOk result (λ found. option_map plain_term found ≡ given_at (plain_extension_op op) (plain_term t.now)) }
+    ensures { IfOk result (λ found.
+        option_map plain_term found ≡ given_at (plain_extension_op op) (plain_term t.now)) }
 {
     match t {
         Term::Prim(literal) => given_at_literal(alloc, op, literal),
@@ -36,7 +37,9 @@ pub(crate) fn given(alloc: Global, op: ExtOp, t: &Term) -> Result<Option<Term>, 
 }
 
 fn given_at_literal(alloc: Global, op: ExtOp, literal: &TermPrim) -> Result<Option<Term>, TermError>
-    ensures { IfOk result (λ found. option_map plain_term found ≡ given_at (plain_extension_op op) (LiteralTerm (plain_literal literal.now))) }
+    ensures { IfOk result (λ found.
+        option_map plain_term found
+        ≡ given_at (plain_extension_op op) (LiteralTerm (plain_literal literal.now))) }
 {
     match literal {
         TermPrim::Ext(value) => part_of(alloc, op, value),
@@ -47,7 +50,8 @@ fn given_at_literal(alloc: Global, op: ExtOp, literal: &TermPrim) -> Result<Opti
 
 // The datetime or the duration of a number of 64 bits.
 fn made_of(op: ExtOp, bits: &BitVec) -> Option<Term>
-    ensures { option_map plain_term result ≡ made_of (plain_extension_op op) (width_of bits.now) (number_of bits.now) }
+    ensures { option_map plain_term result
+        ≡ made_of (plain_extension_op op) (width_of bits.now) (number_of bits.now) }
 {
     if bits.width() != SIXTY_FOUR {
         return None;
@@ -81,7 +85,8 @@ fn long_of(bits: &BitVec) -> i64
 
 // The part of a value that an operator selects, where it is of the value's kind and family.
 fn part_of(alloc: Global, op: ExtOp, value: &Ext) -> Result<Option<Term>, TermError>
-    ensures { IfOk result (λ found. option_map plain_term found ≡ part_of (plain_extension_op op) (plain_value value.now)) }
+    ensures { IfOk result (λ found.
+        option_map plain_term found ≡ part_of (plain_extension_op op) (plain_value value.now)) }
 {
     match value {
         Ext::Decimal { d } => Ok(number_of_decimal(op, d.ten_thousandths)),
@@ -143,7 +148,9 @@ fn number_of_duration(op: ExtOp, number: i64) -> Option<Term>
 }
 
 fn part_of_range(alloc: Global, op: ExtOp, range: &IPNet) -> Result<Option<Term>, TermError>
-    ensures { IfOk result (λ found. option_map plain_term found ≡ part_of (plain_extension_op op) (plain_range (range_of range.now))) }
+    ensures { IfOk result (λ found.
+        option_map plain_term found
+        ≡ part_of (plain_extension_op op) (plain_range (range_of range.now))) }
 {
     match range {
         IPNet::V4(range) => match op {
@@ -180,7 +187,7 @@ fn part_of_range(alloc: Global, op: ExtOp, range: &IPNet) -> Result<Option<Term>
 // The prefix of a range as an option of bits of this width.
 fn prefix_term(alloc: Global, width: Width, prefix: Option<BitVec>) -> Result<Term, TermError>
     requires { IfSome prefix (λ bits. width_of bits ≡ bits_in width) }
-    ensures { IfOk result (λ r. plain_term r ≡ prefix_literal (bits_in width) (option_map number_of prefix)) }
+    ensures { BuildsTerm result (prefix_literal (bits_in width) (option_map number_of prefix)) }
 {
     match prefix {
         Some(bits) => some_of(alloc, Term::from(bits)),

@@ -6,14 +6,14 @@ ghost use Rattle.law_folding.specs.Parts.{are_some, are_some_and_none};
 ghost use Rattle.law_terms.specs.Plain.{SomeTerm};
 ghost use Rattle.smt_term.specs.View.{plain_term};
 
-use smt_factory_bits::{held, is_none_term};
+use crate::{held, is_none_term};
 use smt_term::Term;
 
 // What two `some` hold.
 pub(crate) fn both_held<'a>(t1: &'a Term, t2: &'a Term) -> Option<(&'a Term, &'a Term)>
-    ensures { MatchOption result
-        (are_some (plain_term t1.now) (plain_term t2.now) ≡ false)
-        (λ r. (plain_term t1.now ≡ SomeTerm (plain_term r.0.now)) × (plain_term t2.now ≡ SomeTerm (plain_term r.1.now))) }
+    ensures { MatchOption result (are_some (plain_term t1.now) (plain_term t2.now) ≡ false) (λ r.
+        (plain_term t1.now ≡ SomeTerm (plain_term r.0.now))
+        × (plain_term t2.now ≡ SomeTerm (plain_term r.1.now))) }
 {
     Some((held(t1)?, held(t2)?))
 }

@@ -7,14 +7,14 @@ ghost use Rattle.law_folding.specs.Applications.{record_get_of};
 ghost use Rattle.law_folding.specs.FoldRecords.{folded_record_get, record_of_pairs, tag_record};
 ghost use Rattle.law_folding.specs.Parts.{is_record_term};
 ghost use Rattle.law_folding.specs.RecordOf.{IsRecordOf};
-ghost use Rattle.law_folding.specs.Refinement.{Refines};
 ghost use Rattle.law_terms.specs.Plain.{RecordTerm, record_fields};
 ghost use Rattle.law_terms.specs.Types.{attribute_type, type_of};
 ghost use Rattle.law_terms.specs.Typing.{AreTyped};
 ghost use Rattle.smt_term.specs.Maps.{plain_field, plain_fields};
-ghost use Rattle.smt_term.specs.View.{plain_term, plain_type};
+ghost use Rattle.smt_term.specs.View.{BuildsTerm, plain_term, plain_type};
+ghost use Rattle.smt_factory_core.specs.Results.{ResultRefines};
 
-use smt_factory_bits::unary_application;
+use crate::unary_application;
 use smt_term::{Attr, Op, Term, TermError, TermMap, TermType, Text};
 use smt_text::share_text;
 use std::alloc::Global;
@@ -28,8 +28,9 @@ use std::alloc::Global;
 /// # Errors
 /// `Memory`, where there is none for the term.
 pub fn record_of(alloc: Global, ats: &[(Attr, Term)]) -> Result<Term, TermError>
-    ensures folded { IfOk result (λ r. plain_term r ≡ record_of_pairs (map plain_field ats.now)) }
-    ensures record { AreTyped (map (λ p. plain_term p.1) ats.now) → IfOk result (λ r. IsRecordOf (map plain_field ats.now) (plain_term r)) }
+    ensures folded { BuildsTerm result (record_of_pairs (map plain_field ats.now)) }
+    ensures record { AreTyped (map (λ p. plain_term p.1) ats.now) →
+        IfOk result (λ r. IsRecordOf (map plain_field ats.now) (plain_term r)) }
 {
     let fields = TermMap::new(alloc, ats)?;
     Ok(Term::Record(fields))
@@ -40,7 +41,7 @@ pub fn record_of(alloc: Global, ats: &[(Attr, Term)]) -> Result<Term, TermError>
 /// # Errors
 /// `Memory`, where there is none for the term.
 pub fn tag_of(alloc: Global, entity: Term, tag: Term) -> Result<Term, TermError>
-    ensures { IfOk result (λ r. plain_term r ≡ tag_record (plain_term entity) (plain_term tag)) }
+    ensures { BuildsTerm result (tag_record (plain_term entity) (plain_term tag)) }
 {
     let entity_name = Text::from_str(alloc, "entity")?;
     let tag_name = Text::from_str(alloc, "tag")?;
@@ -53,15 +54,15 @@ pub fn tag_of(alloc: Global, entity: Term, tag: Term) -> Result<Term, TermError>
 /// # Errors
 /// `Memory`, where there is none for the term.
 pub fn record_get(alloc: Global, t: Term, a: &Attr) -> Result<Term, TermError>
-    ensures folded { IfOk result (λ r. plain_term r ≡ folded_record_get (plain_term t) (rc_str_bytes a.now)) }
-    ensures refines { IfOk result (λ r. Refines (plain_term r) (record_get_of (plain_term t) (rc_str_bytes a.now))) }
+    ensures folded { BuildsTerm result (folded_record_get (plain_term t) (rc_str_bytes a.now)) }
+    ensures refines { ResultRefines result (record_get_of (plain_term t) (rc_str_bytes a.now)) }
 {
     folded_record_get(alloc, &t, a)
 }
 
 // The value of a record's attribute, folded.
 fn folded_record_get(alloc: Global, t: &Term, a: &Attr) -> Result<Term, TermError>
-    ensures { IfOk result (λ r. plain_term r ≡ folded_record_get (plain_term t.now) (rc_str_bytes a.now)) }
+    ensures { BuildsTerm result (folded_record_get (plain_term t.now) (rc_str_bytes a.now)) }
 {
     if let Some(fields) = given_fields(t) {
         return match fields.get(a) {
@@ -77,7 +78,8 @@ fn folded_record_get(alloc: Global, t: &Term, a: &Attr) -> Result<Term, TermErro
 
 // The terms of a record's attributes, where it is given by them.
 fn given_fields(t: &Term) -> Option<&TermMap>
-    ensures { MatchOption result (is_record_term (plain_term t.now) ≡ false) (λ m. plain_term t.now ≡ RecordTerm (record_fields (plain_fields m.now))) }
+    ensures { MatchOption result (is_record_term (plain_term t.now) ≡ false)
+        (λ m. plain_term t.now ≡ RecordTerm (record_fields (plain_fields m.now))) }
 {
     match t {
         Term::Record(fields) => Some(fields),
@@ -92,9 +94,10 @@ fn given_fields(t: &Term) -> Option<&TermMap>
 
 // The type of an attribute, where the type of a term has it.
 fn attribute_type(alloc: Global, t: &Term, a: &Attr) -> Result<Option<TermType>, TermError>
-    ensures { IfOk result (λ o. MatchOption o
-        (attribute_type (rc_str_bytes a.now) (type_of (plain_term t.now)) ≡ None)
-        (λ ty. attribute_type (rc_str_bytes a.now) (type_of (plain_term t.now)) ≡ Some (plain_type ty))) }
+    ensures { IfOk result (λ o.
+        MatchOption o (attribute_type (rc_str_bytes a.now) (type_of (plain_term t.now)) ≡ None)
+        (λ ty.
+        attribute_type (rc_str_bytes a.now) (type_of (plain_term t.now)) ≡ Some (plain_type ty))) }
 {
     match &t.type_of(alloc)? {
         TermType::Record { rty } => match rty.get(a) {

@@ -1,22 +1,24 @@
 //! Sets of the values of terms, of cvc5's theory of finite sets.
 #![tactic(auto, using(crate::proofs::FoldingSets::set_folding))]
 
-ghost use Rattle.std.specs.Prelude.{◌≡◌, IfOk, IfSome, MatchOption, None, Some, is_some, map};
+ghost use Rattle.std.specs.Prelude.{◌≡◌, IfOk, IfSome, MatchOption, None, Some, is_some};
 ghost use Rattle.std.specs.List.{filter, list_all};
 ghost use Rattle.law_folding.specs.Applications.{set_inter_of, set_member_of, set_subset_of};
 ghost use Rattle.law_folding.specs.Builder.{applied, folding};
 ghost use Rattle.law_folding.specs.Composites.{set_intersects, set_is_empty};
-ghost use Rattle.law_folding.specs.FoldSets.{common_set, folded_set_inter, folded_set_member, folded_set_subset, is_among};
-ghost use Rattle.law_folding.specs.Parts.{element_type, elements_in, is_empty_set, is_set_literal, is_set_term};
+ghost use Rattle.law_folding.specs.FoldSets.{common_set, folded_set_inter, folded_set_member};
+ghost use Rattle.law_folding.specs.FoldSets.{folded_set_subset, is_among};
+ghost use Rattle.law_folding.specs.Parts.{element_type, elements_in, is_empty_set, is_set_literal};
+ghost use Rattle.law_folding.specs.Parts.{is_set_term};
 ghost use Rattle.law_folding.specs.SetOf.{IsSetOf};
-ghost use Rattle.law_folding.specs.Refinement.{Refines};
 ghost use Rattle.law_terms.specs.TermSets.{set_term};
 ghost use Rattle.law_terms.specs.Types.{type_of};
 ghost use Rattle.law_terms.specs.Typing.{AreOfType};
-ghost use Rattle.smt_term.specs.View.{plain_elements, plain_term, plain_type};
+ghost use Rattle.smt_term.specs.View.{BuildsTerm, plain_elements, plain_term, plain_terms};
+ghost use Rattle.smt_term.specs.View.{plain_type};
+ghost use Rattle.smt_factory_core.specs.Results.{ResultRefines};
 
-use crate::{eq, not};
-use smt_factory_bits::{are_equal, binary_application, binary_test};
+use crate::{are_equal, binary_application, binary_test, eq, not};
 use smt_term::{Op, Term, TermError, TermSet, TermType};
 use std::alloc::Global;
 
@@ -28,18 +30,20 @@ use std::alloc::Global;
 /// `Memory`, where there is none for the term.
 #[tactic(auto, using(smt_term::specs::View::views, crate::proofs::FoldingSets::set_folding))]
 pub fn set_of(alloc: Global, ts: &[Term], elts_ty: TermType) -> Result<Term, TermError>
-    ensures folded { IfOk result (λ r. plain_term r ≡ set_term (plain_type elts_ty) (map plain_term ts.now)) }
-    ensures set { AreOfType (plain_type elts_ty) (map plain_term ts.now) →
-        IfOk result (λ r. IsSetOf (plain_type elts_ty) (map plain_term ts.now) (plain_term r)) }
+    ensures folded { BuildsTerm result (set_term (plain_type elts_ty) (plain_terms ts.now)) }
+    ensures set { AreOfType (plain_type elts_ty) (plain_terms ts.now) →
+        IfOk result (λ r. IsSetOf (plain_type elts_ty) (plain_terms ts.now) (plain_term r)) }
 {
     let elts = TermSet::new(alloc, ts)?;
     Ok(Term::Set { elts_ty, elts })
 }
 
 // The type of a set's elements.
-#[tactic(auto, using(smt_term::specs::View::views), unfolding(smt_types::specs::View::plain_type))]
+#[tactic(auto, using(smt_term::specs::View::views), unfolding(smt_term::specs::TypeView::plain_type))]
 fn element_type(alloc: Global, t: &Term) -> Result<Option<TermType>, TermError>
-    ensures { IfOk result (λ o. MatchOption o (element_type (type_of (plain_term t.now)) ≡ None) (λ ty. element_type (type_of (plain_term t.now)) ≡ Some (plain_type ty))) }
+    ensures { IfOk result (λ o.
+        MatchOption o (element_type (type_of (plain_term t.now)) ≡ None)
+        (λ ty. element_type (type_of (plain_term t.now)) ≡ Some (plain_type ty))) }
 {
     match &t.type_of(alloc)? {
         TermType::Set { ty } => Ok(Some(ty.share()?)),
@@ -57,7 +61,8 @@ fn element_type(alloc: Global, t: &Term) -> Result<Option<TermType>, TermError>
 #[tactic(auto, using(smt_term::specs::View::views), unfolding(smt_term::specs::View::plain_term))]
 fn given_elements(t: &Term) -> Option<&TermSet>
     ensures given { is_some result ≡ is_set_term (plain_term t.now) }
-    ensures elements { IfSome result (λ elts. elements_in (plain_term t.now) ≡ plain_elements elts.now) }
+    ensures elements { IfSome result
+        (λ elts. elements_in (plain_term t.now) ≡ plain_elements elts.now) }
 {
     match t {
         Term::Set { elts, .. } => Some(elts),
@@ -79,7 +84,7 @@ fn is_set_term(t: &Term) -> bool
 
 // The elements of a set that is given by them, and of another term none.
 fn elements_in(t: &Term) -> &[Term]
-    ensures { map plain_term result.now ≡ elements_in (plain_term t.now) }
+    ensures { plain_terms result.now ≡ elements_in (plain_term t.now) }
 {
     match given_elements(t) {
         Some(elts) => elts.items(),
@@ -107,7 +112,7 @@ fn is_set_literal(t: &Term) -> bool
 
 // Whether a term is one of a list.
 fn is_among(ts: &[Term], t: &Term) -> bool
-    ensures { result ≡ is_among (map plain_term ts.now) (plain_term t.now) }
+    ensures { result ≡ is_among (plain_terms ts.now) (plain_term t.now) }
 {
     for element in ts {
         if t == element {
@@ -119,7 +124,7 @@ fn is_among(ts: &[Term], t: &Term) -> bool
 
 // Whether each term of the first list is one of the second.
 fn are_among(subs: &[Term], ts: &[Term]) -> bool
-    ensures { result ≡ list_all (is_among (map plain_term ts.now)) (map plain_term subs.now) }
+    ensures { result ≡ list_all (is_among (plain_terms ts.now)) (plain_terms subs.now) }
 {
     for sub in subs {
         if !is_among(ts, sub) {
@@ -146,15 +151,15 @@ fn are_among(subs: &[Term], ts: &[Term]) -> bool
 /// # Errors
 /// `Memory`, where there is none for the term.
 pub fn set_member(alloc: Global, t: Term, ts: Term) -> Result<Term, TermError>
-    ensures folded { IfOk result (λ r. plain_term r ≡ folded_set_member (plain_term t) (plain_term ts)) }
-    ensures refines { IfOk result (λ r. Refines (plain_term r) (set_member_of (plain_term t) (plain_term ts))) }
+    ensures folded { BuildsTerm result (folded_set_member (plain_term t) (plain_term ts)) }
+    ensures refines { ResultRefines result (set_member_of (plain_term t) (plain_term ts)) }
 {
     folded_set_member(alloc, &t, &ts)
 }
 
 // Membership, folded.
 fn folded_set_member(alloc: Global, t: &Term, ts: &Term) -> Result<Term, TermError>
-    ensures { IfOk result (λ r. plain_term r ≡ folded_set_member (plain_term t.now) (plain_term ts.now)) }
+    ensures { BuildsTerm result (folded_set_member (plain_term t.now) (plain_term ts.now)) }
 {
     if is_empty_set(ts) {
         return Ok(Term::from(false));
@@ -170,15 +175,15 @@ fn folded_set_member(alloc: Global, t: &Term, ts: &Term) -> Result<Term, TermErr
 /// # Errors
 /// `Memory`, where there is none for the term.
 pub fn set_subset(alloc: Global, sub: Term, sup: Term) -> Result<Term, TermError>
-    ensures folded { IfOk result (λ r. plain_term r ≡ folded_set_subset (plain_term sub) (plain_term sup)) }
-    ensures refines { IfOk result (λ r. Refines (plain_term r) (set_subset_of (plain_term sub) (plain_term sup))) }
+    ensures folded { BuildsTerm result (folded_set_subset (plain_term sub) (plain_term sup)) }
+    ensures refines { ResultRefines result (set_subset_of (plain_term sub) (plain_term sup)) }
 {
     folded_set_subset(alloc, &sub, &sup)
 }
 
 // Whether a set is in another, folded.
 fn folded_set_subset(alloc: Global, sub: &Term, sup: &Term) -> Result<Term, TermError>
-    ensures { IfOk result (λ r. plain_term r ≡ folded_set_subset (plain_term sub.now) (plain_term sup.now)) }
+    ensures { BuildsTerm result (folded_set_subset (plain_term sub.now) (plain_term sup.now)) }
 {
     if are_equal(sub, sup) || is_empty_set(sub) {
         return Ok(Term::from(true));
@@ -191,7 +196,8 @@ fn folded_set_subset(alloc: Global, sub: &Term, sup: &Term) -> Result<Term, Term
 
 // The terms of the first list that are among those of the second.
 fn common(alloc: Global, ts1: &[Term], ts2: &[Term]) -> Result<Vec<Term>, TermError>
-    ensures { IfOk result (λ kept. map plain_term kept.items ≡ filter (is_among (map plain_term ts2.now)) (map plain_term ts1.now)) }
+    ensures { IfOk result (λ kept.
+        plain_terms kept.items ≡ filter (is_among (plain_terms ts2.now)) (plain_terms ts1.now)) }
 {
     let mut kept = Vec::new(alloc);
     for t in ts1 {
@@ -205,7 +211,7 @@ fn common(alloc: Global, ts1: &[Term], ts2: &[Term]) -> Result<Vec<Term>, TermEr
 // The set of the first's elements that are in the second; the first itself where it is not given by its elements.
 #[tactic(auto, using(smt_term::specs::View::views, crate::proofs::FoldingSets::set_folding))]
 fn common_set(alloc: Global, ts1: &Term, ts2: &Term) -> Result<Term, TermError>
-    ensures { IfOk result (λ r. plain_term r ≡ common_set (plain_term ts1.now) (plain_term ts2.now)) }
+    ensures { BuildsTerm result (common_set (plain_term ts1.now) (plain_term ts2.now)) }
 {
     match ts1 {
         Term::Set { elts_ty, elts } => {
@@ -229,15 +235,15 @@ fn common_set(alloc: Global, ts1: &Term, ts2: &Term) -> Result<Term, TermError>
 /// # Errors
 /// `Memory`, where there is none for the term.
 pub fn set_inter(alloc: Global, ts1: Term, ts2: Term) -> Result<Term, TermError>
-    ensures folded { IfOk result (λ r. plain_term r ≡ folded_set_inter (plain_term ts1) (plain_term ts2)) }
-    ensures refines { IfOk result (λ r. Refines (plain_term r) (set_inter_of (plain_term ts1) (plain_term ts2))) }
+    ensures folded { BuildsTerm result (folded_set_inter (plain_term ts1) (plain_term ts2)) }
+    ensures refines { ResultRefines result (set_inter_of (plain_term ts1) (plain_term ts2)) }
 {
     folded_set_inter(alloc, &ts1, &ts2)
 }
 
 // The intersection, folded.
 fn folded_set_inter(alloc: Global, ts1: &Term, ts2: &Term) -> Result<Term, TermError>
-    ensures { IfOk result (λ r. plain_term r ≡ folded_set_inter (plain_term ts1.now) (plain_term ts2.now)) }
+    ensures { BuildsTerm result (folded_set_inter (plain_term ts1.now) (plain_term ts2.now)) }
 {
     if are_equal(ts1, ts2) || is_empty_set(ts1) {
         return ts1.share();
@@ -258,15 +264,15 @@ fn folded_set_inter(alloc: Global, ts1: &Term, ts2: &Term) -> Result<Term, TermE
 /// # Errors
 /// `Memory`, where there is none for the term.
 pub fn set_is_empty(alloc: Global, t: Term) -> Result<Term, TermError>
-    ensures folded { IfOk result (λ r. plain_term r ≡ set_is_empty folding (plain_term t)) }
-    ensures refines { IfOk result (λ r. Refines (plain_term r) (set_is_empty applied (plain_term t))) }
+    ensures folded { BuildsTerm result (set_is_empty folding (plain_term t)) }
+    ensures refines { ResultRefines result (set_is_empty applied (plain_term t)) }
 {
     folded_set_is_empty(alloc, &t)
 }
 
 // Whether a set is empty, folded.
 fn folded_set_is_empty(alloc: Global, t: &Term) -> Result<Term, TermError>
-    ensures { IfOk result (λ r. plain_term r ≡ set_is_empty folding (plain_term t.now)) }
+    ensures { BuildsTerm result (set_is_empty folding (plain_term t.now)) }
 {
     if is_set_term(t) {
         return Ok(Term::from(is_empty_set(t)));
@@ -285,8 +291,9 @@ fn folded_set_is_empty(alloc: Global, t: &Term) -> Result<Term, TermError>
 /// # Errors
 /// `Memory`, where there is none for the term.
 pub fn set_intersects(alloc: Global, ts1: Term, ts2: Term) -> Result<Term, TermError>
-    ensures folded { IfOk result (λ r. plain_term r ≡ set_intersects folding (plain_term ts1) (plain_term ts2)) }
-    ensures refines { IfOk result (λ r. Refines (plain_term r) (set_intersects applied (plain_term ts1) (plain_term ts2))) }
+    ensures folded { BuildsTerm result (set_intersects folding (plain_term ts1) (plain_term ts2)) }
+    ensures refines { ResultRefines result
+        (set_intersects applied (plain_term ts1) (plain_term ts2)) }
 {
     not(alloc, set_is_empty(alloc, set_inter(alloc, ts1, ts2)?)?)
 }

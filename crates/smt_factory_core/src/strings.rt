@@ -1,24 +1,25 @@
 //! Strings of the theory UnicodeStrings: whether they match a pattern.
 #![tactic(auto, using(crate::proofs::FoldingStrings::string_folding))]
 
-ghost use Rattle.std.specs.Prelude.{◌≡◌, IfOk, MatchOption, None};
+ghost use Rattle.std.specs.Prelude.{◌≡◌, MatchOption, None};
 ghost use Rattle.std.specs.Rc.{rc_str_bytes};
 ghost use Rattle.law_folding.specs.Applications.{string_like_of};
 ghost use Rattle.law_folding.specs.FoldStrings.{folded_string_like};
 ghost use Rattle.law_folding.specs.Parts.{text_inside};
-ghost use Rattle.law_folding.specs.Refinement.{Refines};
-ghost use Rattle.smt_types.specs.PatternView.{plain_ord_pattern};
+ghost use Rattle.smt_term.specs.PatternView.{plain_ord_pattern};
 ghost use Rattle.law_terms.specs.Plain.{LiteralTerm, StringLiteral};
-ghost use Rattle.smt_term.specs.View.{plain_literal, plain_term};
+ghost use Rattle.smt_term.specs.View.{BuildsTerm, plain_literal, plain_term};
+ghost use Rattle.smt_factory_core.specs.Results.{ResultRefines};
 
-use smt_factory_bits::unary_test;
+use crate::unary_test;
 use smt_term::{Op, OrdPattern, Term, TermError, TermPrim, Text};
 use std::alloc::Global;
 
 // The text of a literal.
 #[tactic(auto, using(smt_term::specs::View::views))]
 fn text_inside(t: &Term) -> Option<&Text>
-    ensures { MatchOption result (text_inside (plain_term t.now) ≡ None) (λ s. plain_term t.now ≡ LiteralTerm (StringLiteral (rc_str_bytes s.now))) }
+    ensures { MatchOption result (text_inside (plain_term t.now) ≡ None)
+        (λ s. plain_term t.now ≡ LiteralTerm (StringLiteral (rc_str_bytes s.now))) }
 {
     match t {
         Term::Prim(literal) => literal_text(literal),
@@ -48,15 +49,15 @@ fn literal_text(literal: &TermPrim) -> Option<&Text>
 /// # Errors
 /// `Memory`, where there is none for the term.
 pub fn string_like(alloc: Global, t: Term, p: OrdPattern) -> Result<Term, TermError>
-    ensures folded { IfOk result (λ r. plain_term r ≡ folded_string_like (plain_term t) (plain_ord_pattern p)) }
-    ensures refines { IfOk result (λ r. Refines (plain_term r) (string_like_of (plain_term t) (plain_ord_pattern p))) }
+    ensures folded { BuildsTerm result (folded_string_like (plain_term t) (plain_ord_pattern p)) }
+    ensures refines { ResultRefines result (string_like_of (plain_term t) (plain_ord_pattern p)) }
 {
     folded_string_like(alloc, &t, &p)
 }
 
 // Whether a string matches a pattern, folded.
 fn folded_string_like(alloc: Global, t: &Term, p: &OrdPattern) -> Result<Term, TermError>
-    ensures { IfOk result (λ r. plain_term r ≡ folded_string_like (plain_term t.now) (plain_ord_pattern p.now)) }
+    ensures { BuildsTerm result (folded_string_like (plain_term t.now) (plain_ord_pattern p.now)) }
 {
     match text_inside(t) {
         Some(text) => Ok(Term::from(p.wildcard_match(text))),

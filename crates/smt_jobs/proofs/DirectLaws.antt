@@ -15,11 +15,11 @@ use Rattle.law_texts.proofs.Spans.{joined}
 use Rattle.law_jobs.specs.Declarations.{Declared, declared}
 use Rattle.law_jobs.specs.Outcomes.{Outcome, followed}
 use Rattle.law_texts.specs.Outcomes.{◌>>=◌}
-use Rattle.law_jobs.specs.Parts.{text_in}
+use Rattle.law_texts.specs.Parts.{text_in}
 use Rattle.law_jobs.specs.Terms.{bits_literal, form_of, operator_form, operator_named, term_of, terms_of}
 use Rattle.smt_jobs.specs.Direct.{with_head}
-use Rattle.smt_jobs.proofs.FormsRead.{other_form}
-use Rattle.smt_jobs.proofs.TermsRead.{all_as_built, types_stay}
+use Rattle.smt_job_terms.proofs.FormsRead.{other_form}
+use Rattle.smt_job_terms.proofs.TermsRead.{all_as_built, types_stay}
 
 -- ---- variables and literals
 

@@ -21,24 +21,24 @@ use Rattle.law_texts.proofs.Spans.{joined, no_span}
 use Rattle.smt_sexpr.proofs.TokenLists.{inside_is}
 use Rattle.law_jobs.specs.Declarations.{Declarations, Declared as Stated, declared}
 use Rattle.law_jobs.specs.Outcomes.{mapped}
-use Rattle.law_jobs.specs.Parts.{text_in}
+use Rattle.law_texts.specs.Parts.{text_in}
 use Rattle.law_jobs.specs.Terms.{bits_literal, condition_of, operator_named, term_of, terms_of}
 use Rattle.law_jobs.proofs.SoundTerms.{AreSound, terms_sound}
-use Rattle.smt_apply.specs.Applied.{IsBuilt, StandForTerms}
-use Rattle.smt_job_declarations.specs.DeclarationView.{HasDeclared, HasVariables}
-use Rattle.smt_job_declarations.specs.declared.declaration.Declared.{Declared}
+use Rattle.smt_jobs.specs.Applied.{IsBuilt, StandForTerms}
+use Rattle.smt_job_terms.specs.DeclarationView.{HasDeclared, HasVariables}
+use Rattle.smt_job_terms.specs.declared.declaration.Declared.{Declared}
 use Rattle.smt_nodes.specs.Interned.{meaning_in, nodes_of, KeepsMeanings, StandFor}
 use Rattle.smt_nodes.specs.View.{place_of, places_of}
 use Rattle.smt_nodes.specs.declared.id.NodeId.{NodeId}
 use Rattle.smt_nodes.specs.declared.interner.Interner.{Interner}
-use Rattle.smt_job_declarations.proofs.Reading.{mapped_of}
+use Rattle.smt_job_terms.proofs.Reading.{mapped_of}
 use Rattle.smt_nodes.proofs.Fitting.{first_found}
 use Rattle.smt_nodes.proofs.Interning.{all_kept, more_found}
 use Rattle.smt_jobs.specs.Direct.{AreNumbered, IsConditionNumbered, IsNumbered, ReadsBehind, ReadsOf, with_head}
 use Rattle.smt_jobs.specs.Walk.{ReadsSome}
 use Rattle.smt_jobs.proofs.DirectLaws.{IsStatedApplication, IsStatedLiteral, application_stated, bits_stated, bracketed, one_deeper, terms_push, variable_stated}
 use Rattle.smt_jobs.proofs.Walking.{read_more, read_more_is}
-use Rattle.smt_jobs.proofs.WholeTerms.{declared_formed, holds_of, is_condition, sound_typed}
+use Rattle.smt_job_terms.proofs.WholeTerms.{declared_formed, holds_of, is_condition, sound_typed}
 
 -- ---- operands that are read so far
 

@@ -11,16 +11,15 @@ use Rattle.law_jobs.specs.Jobs.{PlainJob, built_job, declared_first, job_of, sec
 use Rattle.law_jobs.specs.Outcomes.{JobFault, Outcome, FormFault, followed, mapped}
 use Rattle.law_jobs.specs.Steps.{PlainStep, AssertStep, PushStep, PopStep, CheckStep, Section, built_step, built_steps, headed, levels_behind, nothing_more, step_named, step_of, steps_of}
 use Rattle.law_jobs.specs.Terms.{condition_of, conditions_of}
-use Rattle.smt_sexpr.specs.View.{plain}
+use Rattle.smt_sexpr.specs.View.{plain, plain_list}
 use Rattle.smt_sexpr.specs.declared.expression.SExpr.{SExpr}
 use Rattle.smt_term.specs.View.{plain_term}
 use Rattle.smt_term.specs.declared.term.Term.{Term}
-use Rattle.smt_job_declarations.specs.ReadAs.{plain_list}
-use Rattle.smt_job_declarations.proofs.Reading.{IsMappedOf, behind, mapped_fault, mapped_of, nothing_behind, one_behind}
+use Rattle.smt_job_terms.proofs.Reading.{IsMappedOf, behind, mapped_fault, mapped_of, nothing_behind, one_behind}
 use Rattle.smt_jobs.specs.StepView.{plain_bare_step}
 use Rattle.smt_jobs.specs.Walk.{first_and_others, first_by, section_in}
 use Rattle.smt_jobs.specs.declared.steps.BareStep.{BareStep}
-use Rattle.smt_jobs.proofs.TermsRead.{built_followed}
+use Rattle.smt_job_terms.proofs.TermsRead.{built_followed}
 use Rattle.smt_jobs.proofs.Walking.{IsSectioned, bare_built, cons_from, ended, neither_there, nil_from, no_job, no_steps, no_steps_there, no_terms_there, not_declared, not_ended, steps_there, terms_there, with_steps, without_steps}
 
 -- ---- the Boolean terms, one after the other

@@ -12,15 +12,15 @@ use Rattle.law_texts.specs.Outcomes.{◌>>=◌, demanded}
 use Rattle.law_texts.specs.Reading.{Expression, Leaf, Node, Expressions, Nil, Cons}
 use Rattle.law_jobs.specs.Declarations.{Declared, declared}
 use Rattle.law_jobs.specs.Outcomes.{JobFault, Outcome, followed, mapped, DuplicateFault, FormFault, LiteralFault, TruthFault, TypeFault, TypingFault, UnknownFault, WidthFault}
-use Rattle.law_jobs.specs.Parts.{both, first_in, name_in, number_in, sole, sole_text, text_in, width_in}
+use Rattle.law_texts.specs.Parts.{both, first_in, name_in, number_in, sole, sole_text, text_in}
 use Rattle.law_jobs.specs.Terms.{TermForm, Whole, Operator, OperatorBehind, Present, Elements, Fields, applied, are_of_type, atom_term, bits_form, bits_literal, datetime_literal, decimal_literal, duration_literal, entity_form, extension_by, extension_form, field_name, field_names, form_of, function_form, like_form, literal_form, long_literal, made, new_names, none_form, operator_form, operator_named, other_terms, parts_of, pattern_in, range_literal, record_form, second_terms, selection_form, set_form, some_form, term_of, terms_of, truth_named, variable_form, whole_literal}
-use Rattle.law_jobs.specs.Types.{attributes_of, bits_type, entity_type, headed_type, new_attribute, new_name, sole_type, stated_record_type, type_named, type_of_expression}
+use Rattle.law_jobs.specs.Types.{attributes_of, bits_type, entity_type, headed_type, new_attribute, new_name, sole_type, stated_record_type, type_named, type_of_expression, width_in}
 use Rattle.smt_term.specs.View.{plain_term}
 use Rattle.smt_term.specs.declared.term.Term.{Term}
-use Rattle.smt_job_declarations.specs.ReadAs.{IsFaultIn, IsReadAs}
-use Rattle.smt_job_declarations.specs.declared.error.JobError.{JobError}
-use Rattle.smt_job_declarations.specs.declared.error.JobError.TheVariants.{NotBool}
-use Rattle.smt_job_declarations.proofs.Reading.{mapped_fault}
+use Rattle.smt_job_terms.specs.ReadAs.{IsFaultIn, IsReadAs}
+use Rattle.smt_job_terms.specs.declared.error.JobError.{JobError}
+use Rattle.smt_job_terms.specs.declared.error.JobError.TheVariants.{NotBool}
+use Rattle.smt_job_terms.proofs.Reading.{mapped_fault}
 
 -- a fault that a term can have by itself
 abbrev pub IsOfTerms : JobFault → Type 0

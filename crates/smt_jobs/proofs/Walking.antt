@@ -19,25 +19,25 @@ use Rattle.smt_sexpr.specs.declared.error.SExprParseError.TheVariants.{Unexpecte
 use Rattle.smt_sexpr.proofs.TokenLists.{deepest_push, inside_is}
 use Rattle.law_jobs.specs.Outcomes.{JobFault, Outcome, FormFault, followed, mapped}
 use Rattle.law_texts.specs.Outcomes.{◌>>=◌}
-use Rattle.law_jobs.specs.Parts.{name_in}
+use Rattle.law_texts.specs.Parts.{name_in}
 use Rattle.law_jobs.specs.Declarations.{Declarations, Declared as Stated, functions_of, variables_of}
 use Rattle.law_jobs.specs.Enums.{enums_in}
 use Rattle.law_jobs.specs.Jobs.{IsBuiltFrom, IsTooLong, PlainJob, declared_first, greatest_length, job_of, section_first, section_of, steps_last}
 use Rattle.law_jobs.specs.Steps.{PlainStep, AssertStep, Section, TermsSection, StepsSection, built_step, built_steps, headed, levels_behind, nothing_more, section_named, step_named, step_of, steps_of}
 use Rattle.law_jobs.specs.Terms.{condition_of, conditions_of}
-use Rattle.smt_job_declarations.specs.DeclarationView.{declared_in}
-use Rattle.smt_job_declarations.specs.ReadAs.{IsFault, IsFaultIn}
+use Rattle.smt_job_terms.specs.DeclarationView.{stated_in}
+use Rattle.smt_job_terms.specs.ReadAs.{IsFault, IsFaultIn}
 use Rattle.smt_jobs.specs.Refused.{IsFirstFault, IsRefusal, IsTextFault, IsUnreadable}
 use Rattle.smt_jobs.specs.StepView.{plain_bare_step, plain_section}
 use Rattle.smt_jobs.specs.Walk.{Begins, BeginsInside, Gives, ReadsInside, ReadsOne, ReadsSome, Takes, TakesJob, alone, first_and_others, first_by, named_in, section_in, step_in, with_levels}
 use Rattle.smt_jobs.specs.declared.steps.BareStep.{BareStep}
 use Rattle.smt_jobs.specs.declared.steps.BareStep.TheVariants as bare
 use Rattle.smt_jobs.specs.declared.steps.Section.{Section as Which}
-use Rattle.smt_job_declarations.specs.declared.declaration.Declared.{Declared}
-use Rattle.smt_job_declarations.specs.declared.error.JobError.{JobError}
-use Rattle.smt_job_declarations.specs.declared.error.JobError.TheVariants.{TooLarge, Parse, TooDeep, BadForm, UnknownName, DuplicateName, BadType, BadWidth, BadLiteral, IllTyped, NotBool, Unbalanced, Memory}
-use Rattle.smt_job_declarations.proofs.Shapes.{other_text}
-use Rattle.smt_job_declarations.proofs.Reading.{behind, fault_passes, mapped_of, nothing_behind, one_behind}
+use Rattle.smt_job_terms.specs.declared.declaration.Declared.{Declared}
+use Rattle.smt_job_terms.specs.declared.error.JobError.{JobError}
+use Rattle.smt_job_terms.specs.declared.error.JobError.TheVariants.{TooLarge, Parse, TooDeep, BadForm, UnknownName, DuplicateName, BadType, BadWidth, BadLiteral, IllTyped, NotBool, Unbalanced, Memory}
+use Rattle.law_texts.proofs.SameTexts.{other_text}
+use Rattle.smt_job_terms.proofs.Reading.{behind, fault_passes, mapped_of, nothing_behind, one_behind}
 
 abbrev no_form : Outcome ℕ
 no_form = Err FormFault
@@ -640,9 +640,9 @@ whole_begins bytes e r = record { has = subst (HasTokens bytes) (sym (append-nil
 
 module _ (bytes : List ℕ) (old new : List PlainStep) where
   abbrev IsWalked : Result (Declared × Which) JobError → Type 0
-  IsWalked r = (e : Expression) → IsReadWithin bytes 512 e → Gives (λ x job. Takes (declared_in x.0) (plain_section x.1) old new job) r (job_of e)
+  IsWalked r = (e : Expression) → IsReadWithin bytes 512 e → Gives (λ x job. Takes (stated_in x.0) (plain_section x.1) old new job) r (job_of e)
 
-  pub job_taken : (walked : Declared × Which) → length bytes ≤ greatest_length → ((e : Expression) × IsReadWithin bytes 512 e) → IsWalked (Ok walked) → TakesJob bytes (declared_in walked.0) (plain_section walked.1) old new
+  pub job_taken : (walked : Declared × Which) → length bytes ≤ greatest_length → ((e : Expression) × IsReadWithin bytes 512 e) → IsWalked (Ok walked) → TakesJob bytes (stated_in walked.0) (plain_section walked.1) old new
   job_taken walked short read w =
       let t = w read.0 read.1 in
       record {

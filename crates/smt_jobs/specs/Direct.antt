@@ -8,8 +8,8 @@ use Rattle.law_texts.specs.Reading.{Expression, Leaf, Node, Expressions, Cons, b
 use Rattle.law_texts.specs.Tokens.{Spans}
 use Rattle.law_jobs.specs.Declarations.{Declared as Stated}
 use Rattle.law_jobs.specs.Terms.{condition_of, term_of, terms_of}
-use Rattle.smt_job_declarations.specs.DeclarationView.{HasDeclared}
-use Rattle.smt_job_declarations.specs.declared.declaration.Declared.{Declared}
+use Rattle.smt_job_terms.specs.DeclarationView.{HasDeclared}
+use Rattle.smt_job_terms.specs.declared.declaration.Declared.{Declared}
 use Rattle.smt_nodes.specs.Interned.{meaning_in, StandFor}
 use Rattle.smt_nodes.specs.declared.id.NodeId.{NodeId}
 use Rattle.smt_nodes.specs.declared.interner.Interner.{Interner}
@@ -34,11 +34,15 @@ with_head head es = Node (Cons (Leaf (Name head)) es)
 
 -- The number stands for a term, which is the one that the expression states, as it is built.
 abbrev pub IsNumbered : Declared → Interner → NodeId → Expression → Type 0
-IsNumbered d i id e = (t : PlainTerm) × (meaning_in i id ≡ Some (TermMeaning t)) × ((ds : Stated) → HasDeclared d ds → (written : PlainTerm) × (term_of ds e ≡ Ok written) × (t ≡ built written))
+IsNumbered d i id e =
+    (t : PlainTerm) × (meaning_in i id ≡ Some (TermMeaning t))
+    × ((ds : Stated) → HasDeclared d ds → (written : PlainTerm) × (term_of ds e ≡ Ok written) × (t ≡ built written))
 
 -- The numbers stand for terms, which are those that the expressions state, as they are built.
 abbrev pub AreNumbered : Declared → Interner → List NodeId → Expressions → Type 0
-AreNumbered d i ids es = (ts : List PlainTerm) × StandFor i ids ts × ((ds : Stated) → HasDeclared d ds → (written : List PlainTerm) × (terms_of ds es ≡ Ok written) × (ts ≡ map built written))
+AreNumbered d i ids es =
+    (ts : List PlainTerm) × StandFor i ids ts
+    × ((ds : Stated) → HasDeclared d ds → (written : List PlainTerm) × (terms_of ds es ≡ Ok written) × (ts ≡ map built written))
 
 -- The term is Boolean, and it is the one that the expression states, as it is built.
 abbrev pub IsCondition : Declared → PlainTerm → Expression → Type 0

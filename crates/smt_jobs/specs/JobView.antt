@@ -1,15 +1,11 @@
 -- What a job of the program says.
-use Rattle.smt_types.specs.Enums.{enums_of}
-use Rattle.law_jobs.specs.Declarations.{Declared}
+use Rattle.smt_term.specs.Enums.{enums_of}
 use Rattle.law_jobs.specs.Jobs.{PlainJob}
-use Rattle.smt_job_declarations.specs.DeclarationView.{declarations, functions}
+use Rattle.smt_job_terms.specs.DeclarationView.{declarations, functions}
 use Rattle.smt_jobs.specs.StepView.{plain_steps}
 use Rattle.smt_jobs.specs.declared.job.Job.{Job}
 
 -- a job of the program: its enum types, its declarations in order, and its steps
 abbrev pub plain_job : Job → PlainJob
-plain_job job = record { enums = enums_of job.enums; variables = declarations job.vars; functions = functions job.funs; steps = plain_steps job.steps }
-
--- what a job declares, for the terms that name it
-abbrev pub declared_by : PlainJob → Declared
-declared_by job = record { enums = job.enums; variables = job.variables; functions = job.functions }
+plain_job job =
+    record { enums = enums_of job.enums; variables = declarations job.vars; functions = functions job.funs; steps = plain_steps job.steps }

@@ -1,8 +1,9 @@
+pub mod Applied
 pub mod Direct
 pub mod JobView
+pub mod Labels
 pub mod Numbered
 pub mod Numbers
 pub mod Refused
 pub mod StepView
-pub mod TermView
 pub mod Walk

@@ -6,9 +6,9 @@ use Rattle.smt_sexpr.specs.Refusals.{IsRefused}
 use Rattle.smt_sexpr.specs.declared.error.SExprParseError.{SExprParseError}
 use Rattle.smt_sexpr.specs.declared.error.SExprParseError.TheVariants.{TooDeep as TextTooDeep, Memory as TextWant}
 use Rattle.law_jobs.specs.Jobs.{HasFault, IsTooLong, greatest_length, greatest_nesting}
-use Rattle.smt_job_declarations.specs.ReadAs.{fault_in}
-use Rattle.smt_job_declarations.specs.declared.error.JobError.{JobError}
-use Rattle.smt_job_declarations.specs.declared.error.JobError.TheVariants.{TooLarge, Parse, TooDeep, Memory}
+use Rattle.smt_job_terms.specs.ReadAs.{fault_in}
+use Rattle.smt_job_terms.specs.declared.error.JobError.{JobError}
+use Rattle.smt_job_terms.specs.declared.error.JobError.TheVariants.{TooLarge, Parse, TooDeep, Memory}
 
 -- The first fault of the bytes as one expression, with at most 512 brackets open at a place; that they are too deep and a want of
 -- memory have errors of their own.

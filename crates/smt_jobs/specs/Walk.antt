@@ -10,8 +10,8 @@ use Rattle.law_jobs.specs.Jobs.{IsJob, PlainJob, greatest_nesting}
 use Rattle.law_jobs.specs.Outcomes.{Outcome, FormFault}
 use Rattle.law_jobs.specs.Steps.{PlainStep, Section, built_steps, headed, levels_behind, nothing_more, section_named, step_named, step_of}
 use Rattle.law_texts.specs.Outcomes.{◌>>=◌}
-use Rattle.smt_job_declarations.specs.ReadAs.{IsFaultIn}
-use Rattle.smt_job_declarations.specs.declared.error.JobError.{JobError}
+use Rattle.smt_job_terms.specs.ReadAs.{IsFaultIn}
+use Rattle.smt_job_terms.specs.declared.error.JobError.{JobError}
 
 -- ---- what stands at the front of a text
 
@@ -53,8 +53,11 @@ StandsFirst view end found stated = (view found.0 ≡ stated.0) × BeginsInside 
 
 -- Where the text is inside the brackets of a job, what was found at its front is what is stated of the expressions there, and an
 -- error is the fault that is stated.
-abbrev pub GivesFirst : {A B : Type 0} → (A → B) → List ℕ → Result (A × Bor (List ℕ)) JobError → (Expressions → Outcome (B × Expressions)) → Type 0
-GivesFirst view bytes found stated = (es : Expressions) (end : List Token) → BeginsInside (greatest_nesting - 1) es bytes end → Gives (StandsFirst view end) found (stated es)
+abbrev pub GivesFirst : {A B : Type 0} → (A → B) → List ℕ → Result (A × Bor (List ℕ)) JobError → (Expressions → Outcome (B × Expressions)) →
+    Type 0
+GivesFirst view bytes found stated =
+    (es : Expressions) (end : List Token) → BeginsInside (greatest_nesting - 1) es bytes end →
+    Gives (StandsFirst view end) found (stated es)
 
 -- the first of some expressions, and the others
 abbrev pub first_and_others : Expressions → Outcome (Expression × Expressions)

@@ -1,23 +1,24 @@
+#![tactic(auto, using(smt_term::specs::View::views, smt_sexpr::specs::View::views))]
 // Terms of jobs, read from their bytes as numbered nodes: without an expression, and without a term where nothing is folded.
 // What these functions do not read, `term.rt` reads; so they give terms alone, and no refusal.
-ghost use Rattle.std.specs.Prelude.{ℕ, List, ◌≡◌, ◌<◌, ◌∷◌, [], IfOk, IfSome, IsTrue, Some, codes, length, option_and_then, option_map};
+ghost use Rattle.std.specs.Prelude.{ℕ, List, ◌≡◌, ◌<◌, ◌∷◌, [], IfOk, IfSome, IsTrue, Some, codes};
+ghost use Rattle.std.specs.Prelude.{length, option_and_then, option_map};
 ghost use Rattle.std.specs.Bool.{then_some};
-ghost use Rattle.law_jobs.specs.Terms.{bits_literal as bits_stated, operator_named as operator_stated};
+ghost use Rattle.law_jobs.specs.Terms.{bits_literal as bits_stated};
+ghost use Rattle.law_jobs.specs.Terms.{operator_named as operator_stated};
 ghost use Rattle.law_numbers.specs.Widths.{is_width};
-ghost use Rattle.law_terms.specs.Nodes.{TermMeaning, TypeMeaning};
+ghost use Rattle.law_terms.specs.Nodes.{TypeMeaning};
 ghost use Rattle.law_texts.specs.Lexicon.{Begin, Name, Word};
 ghost use Rattle.law_texts.specs.Tokens.{Spans};
 ghost use Rattle.law_texts.specs.Reads.{IfRead};
-ghost use Rattle.smt_jobs.specs.Direct.{is_atomic as atomic, IsConditionNumbered, IsNumbered, ReadsBehind, ReadsOf, with_head};
-ghost use Rattle.smt_nodes.specs.Interned.{meaning_in, KeepsMeanings};
+ghost use Rattle.smt_jobs.specs.Direct.{is_atomic as atomic, IsConditionNumbered, IsNumbered};
+ghost use Rattle.smt_jobs.specs.Direct.{ReadsBehind, ReadsOf, with_head};
+ghost use Rattle.smt_nodes.specs.Interned.{IsNumber, KeepsMeanings, meaning_in};
 ghost use Rattle.smt_term.specs.View.{plain_op, plain_term, plain_type, plain_variable};
 
-use crate::form::bits_literal;
-use crate::operator::operator_named;
-use crate::term::term_from;
-use smt_apply::applied;
+use crate::applied;
 use smt_bits::Width;
-use smt_job_declarations::Declared;
+use smt_job_terms::{Declared, bits_literal, operator_named, term_from};
 use smt_nodes::{Interner, Label, NodeId, Subject};
 use smt_sexpr::{behind_close, behind_open, name_at, number_at, plain_text_at, read_next};
 use smt_term::{Op, Term, TermError, TermType, TermVar};
@@ -55,7 +56,7 @@ fn is_type(nodes: &Interner, id: NodeId, ty: &TermType) -> bool
 
 /// Whether the number stands for a variable. It is denied of a variable whose type has types inside it.
 fn is_variable(nodes: &Interner, id: NodeId, variable: &TermVar) -> bool
-    ensures { IsTrue result → meaning_in nodes.now id ≡ Some (TermMeaning (plain_variable variable.now)) }
+    ensures { IsTrue result → IsNumber nodes.now id (plain_variable variable.now) }
 {
     let Some(Label::Var(own)) = nodes.label(id) else {
         return false;
@@ -88,7 +89,7 @@ fn variable_number(
     place: usize,
     variable: &TermVar,
 ) -> Result<NodeId, TermError>
-    ensures number { IfOk result (λ id. meaning_in nodes.new id ≡ Some (TermMeaning (plain_variable variable.now))) }
+    ensures number { IfOk result (λ id. IsNumber nodes.new id (plain_variable variable.now)) }
     ensures kept { KeepsMeanings nodes.old nodes.new }
 {
     if let Some(id) = known.get(place) {
@@ -108,7 +109,9 @@ fn variable_at<'t>(
     known: &mut Known,
     src: &'t [u8],
 ) -> Front<'t>
-    ensures read { IfRead result (λ x. ReadsBehind (λ es. IsNumbered declared.now nodes.new x.0 (with_head (codes "var") es)) src.now 0 x.1.now) }
+    ensures read { IfRead result (λ x.
+        ReadsBehind (λ es. IsNumbered declared.now nodes.new x.0 (with_head (codes "var") es))
+        src.now 0 x.1.now) }
     ensures kept { KeepsMeanings nodes.old nodes.new }
     ensures shorter { IfRead result (λ x. length x.1.now < length src.now) }
 {
@@ -127,14 +130,17 @@ fn variable_at<'t>(
 
 /// The literal of a width and a number, where the width is from 1 to 128 and the number is one of that width.
 fn literal_of(width: u128, number: u128) -> Option<Term>
-    ensures { option_map plain_term result ≡ option_and_then (λ w. bits_stated w number) (then_some (is_width width) width) }
+    ensures { option_map plain_term result
+        ≡ option_and_then (λ w. bits_stated w number) (then_some (is_width width) width) }
 {
     bits_literal(Width::new(u32::try_from(width).ok()?)?, number)
 }
 
 /// The literal whose width and number stand behind `(bv`.
 fn bits_at<'t>(declared: &Declared, nodes: &mut Interner, src: &'t [u8]) -> Front<'t>
-    ensures read { IfRead result (λ x. ReadsBehind (λ es. IsNumbered declared.now nodes.new x.0 (with_head (codes "bv") es)) src.now 0 x.1.now) }
+    ensures read { IfRead result (λ x.
+        ReadsBehind (λ es. IsNumbered declared.now nodes.new x.0 (with_head (codes "bv") es))
+        src.now 0 x.1.now) }
     ensures kept { KeepsMeanings nodes.old nodes.new }
     ensures shorter { IfRead result (λ x. length x.1.now < length src.now) }
 {
@@ -161,7 +167,8 @@ fn whole_at<'t>(
     src: &'t [u8],
     depth: usize,
 ) -> Front<'t>
-    ensures read { IfRead result (λ x. ReadsOf (IsNumbered declared.now nodes.new x.0) src.now depth x.1.now) }
+    ensures read { IfRead result
+        (λ x. ReadsOf (IsNumbered declared.now nodes.new x.0) src.now depth x.1.now) }
     ensures kept { KeepsMeanings nodes.old nodes.new }
     ensures shorter { IfRead result (λ x. length x.1.now < length src.now) }
 {
@@ -193,7 +200,10 @@ fn application_at<'t>(
     src: &'t [u8],
     depth: usize,
 ) -> Front<'t>
-    ensures read { (head : List ℕ) → operator_stated head ≡ Some (plain_op op.now) → IfRead result (λ x. ReadsBehind (λ es. IsNumbered declared.now nodes.new x.0 (with_head head es)) src.now depth x.1.now) }
+    ensures read { (head : List ℕ) → operator_stated head ≡ Some (plain_op op.now) →
+        IfRead result (λ x.
+        ReadsBehind (λ es. IsNumbered declared.now nodes.new x.0 (with_head head es)) src.now depth
+        x.1.now) }
     ensures kept { KeepsMeanings nodes.old nodes.new }
     ensures shorter { IfRead result (λ x. length x.1.now < length src.now) }
 {
@@ -222,7 +232,8 @@ fn term_at<'t>(
     src: &'t [u8],
     depth: usize,
 ) -> Front<'t>
-    ensures read { IfRead result (λ x. ReadsOf (IsNumbered declared.now nodes.new x.0) src.now depth x.1.now) }
+    ensures read { IfRead result
+        (λ x. ReadsOf (IsNumbered declared.now nodes.new x.0) src.now depth x.1.now) }
     ensures kept { KeepsMeanings nodes.old nodes.new }
     ensures shorter { IfRead result (λ x. length x.1.now < length src.now) }
 {
@@ -259,7 +270,8 @@ pub(crate) fn condition_at<'t>(
     src: &'t [u8],
     depth: usize,
 ) -> Front<'t>
-    ensures read { IfRead result (λ x. ReadsOf (IsConditionNumbered declared.now nodes.new x.0) src.now depth x.1.now) }
+    ensures read { IfRead result
+        (λ x. ReadsOf (IsConditionNumbered declared.now nodes.new x.0) src.now depth x.1.now) }
     ensures kept { KeepsMeanings nodes.old nodes.new }
     ensures shorter { IfRead result (λ x. length x.1.now < length src.now) }
 {

@@ -1,44 +1,47 @@
+#![tactic(auto, using(smt_term::specs::View::views, smt_sexpr::specs::View::views))]
 // A job, and single terms of its language, of expressions that are read already.
-ghost use Rattle.std.specs.Prelude.{ℕ, ◌≡◌, ◌+◌, ◌^◌, ◌<◌, ◌≤◌, ◌∷◌, [], Ok, IfErr, IfOk, codes, map};
+ghost use Rattle.std.specs.Prelude.{ℕ, ◌≡◌, ◌+◌, ◌^◌, ◌<◌, ◌≤◌, ◌∷◌, [], Ok, IfErr, IfOk, codes};
+ghost use Rattle.std.specs.Prelude.{map};
 ghost use Rattle.std.specs.Rc.{rc_str_bytes};
 ghost use Rattle.law_folding.specs.Built.{built};
 ghost use Rattle.law_texts.specs.Reading.{Expressions};
-ghost use Rattle.smt_sexpr.specs.View.{plain};
+ghost use Rattle.smt_sexpr.specs.View.{plain, plain_list};
 ghost use Rattle.smt_term.specs.View.{plain_items, plain_term};
 ghost use Rattle.law_jobs.specs.Declarations.{Declared as Stated};
 ghost use Rattle.law_jobs.specs.Jobs as jobs;
-ghost use Rattle.law_jobs.specs.Jobs.{built_job};
+ghost use Rattle.law_jobs.specs.Jobs.{built_job, declarations_of};
 ghost use Rattle.law_jobs.specs.Outcomes.{mapped};
 ghost use Rattle.law_jobs.specs.Steps as stated;
 ghost use Rattle.law_jobs.specs.Steps.{AssertStep, built_step, built_steps};
 ghost use Rattle.law_jobs.specs.Terms.{conditions_of, term_of};
-ghost use Rattle.smt_job_declarations.specs.DeclarationView.{HasDeclared, declared_in};
-ghost use Rattle.smt_job_declarations.specs.ReadAs.{IsReadAs, plain_list};
-ghost use Rattle.smt_jobs.specs.JobView.{declared_by, plain_job};
+ghost use Rattle.smt_job_terms.specs.DeclarationView.{HasDeclared, stated_in};
+ghost use Rattle.smt_job_terms.specs.ReadAs.{IsReadAs};
+ghost use Rattle.smt_jobs.specs.JobView.{plain_job};
 ghost use Rattle.smt_jobs.specs.StepView.{plain_bare_step, plain_step, plain_steps};
 ghost use Rattle.smt_jobs.specs.Walk.{first_and_others, section_in};
 
 use crate::job::Job;
 use crate::steps::{BareStep, Step, StepList};
-use crate::term::{condition_from, term_from};
 use crate::walk::{bare_named, section_of};
-use smt_job_declarations::{
-    Declared, JobError, enums_from, functions_from, inside_of, name_in, variables_from,
+use smt_job_terms::{
+    Declared, JobError, condition_from, enums_from, functions_from, term_from, variables_from,
 };
-use smt_sexpr::SExpr;
+use smt_sexpr::{SExpr, inside_of, name_in};
 use smt_term::{Term, TermError, TermList, Text};
 use std::alloc::Global;
 
 /// The first of some expressions, and the others.
 fn first_apart(items: &[SExpr]) -> Result<(&SExpr, &[SExpr]), JobError>
-    ensures { IsReadAs (λ p. (plain p.0.now, plain_list p.1.now)) result (first_and_others (plain_list items.now)) }
+    ensures { IsReadAs (λ p. (plain p.0.now, plain_list p.1.now)) result
+        (first_and_others (plain_list items.now)) }
 {
     items.split_first().ok_or(JobError::BadForm)
 }
 
 /// The name in front of what stands in brackets, and what stands behind it.
 fn head_from(expression: &SExpr) -> Result<(&Text, &[SExpr]), JobError>
-    ensures { IsReadAs (λ p. (rc_str_bytes p.0.now, plain_list p.1.now)) result (stated.headed (plain expression.now)) }
+    ensures { IsReadAs (λ p. (rc_str_bytes p.0.now, plain_list p.1.now)) result
+        (stated.headed (plain expression.now)) }
 {
     let inside = inside_of(expression).ok_or(JobError::BadForm)?;
     let (first, others) = first_apart(inside)?;
@@ -48,7 +51,8 @@ fn head_from(expression: &SExpr) -> Result<(&Text, &[SExpr]), JobError>
 
 /// What stands in the first of some expressions behind this head, and the other expressions.
 fn section_first<'e>(head: &str, items: &'e [SExpr]) -> Result<(&'e [SExpr], &'e [SExpr]), JobError>
-    ensures { IsReadAs (λ p. (plain_list p.0.now, plain_list p.1.now)) result (jobs.section_first head.now (λ es. Ok es) (plain_list items.now)) }
+    ensures { IsReadAs (λ p. (plain_list p.0.now, plain_list p.1.now)) result
+        (jobs.section_first head.now (λ es. Ok es) (plain_list items.now)) }
 {
     let (section, others) = first_apart(items)?;
     let inside = section_of(head, section)?;
@@ -57,8 +61,9 @@ fn section_first<'e>(head: &str, items: &'e [SExpr]) -> Result<(&'e [SExpr], &'e
 
 /// The enum types, variables and functions of the first three sections, and the sections behind them.
 fn declarations_from(alloc: Global, items: &[SExpr]) -> Result<(Declared, &[SExpr]), JobError>
-    ensures stated { IsReadAs (λ x. (declared_in x.0, plain_list x.1.now)) result (jobs.declared_first (plain_list items.now)) }
-    ensures declares { IfOk result (λ x. HasDeclared x.0 (declared_in x.0)) }
+    ensures stated { IsReadAs (λ x. (stated_in x.0, plain_list x.1.now)) result
+        (jobs.declared_first (plain_list items.now)) }
+    ensures declares { IfOk result (λ x. HasDeclared x.0 (stated_in x.0)) }
 {
     let (section, items) = section_first("enums", items)?;
     let enums = enums_from(alloc, section)?;
@@ -82,7 +87,8 @@ fn conditions_from(
     declared: &Declared,
     items: &[SExpr],
 ) -> Result<TermList, JobError>
-    ensures { (ds : Stated) → HasDeclared declared.now ds → IsReadAs plain_items result (mapped (map built) (conditions_of ds (plain_list items.now))) }
+    ensures { (ds : Stated) → HasDeclared declared.now ds →
+        IsReadAs plain_items result (mapped (map built) (conditions_of ds (plain_list items.now))) }
 {
     let mut terms = Vec::new(alloc);
     for item in items {
@@ -105,7 +111,8 @@ fn nothing_more(items: &[SExpr]) -> Result<(), JobError>
 /// The step without terms of this name, behind which nothing may stand.
 fn bare_step_from(name: &str, items: &[SExpr]) -> Result<BareStep, JobError>
     requires other { name.now ≡ codes "assert" → ⊥ }
-    ensures { (ds : Stated) → IsReadAs plain_bare_step result (stated.step_named ds name.now (plain_list items.now)) }
+    ensures { (ds : Stated) →
+        IsReadAs plain_bare_step result (stated.step_named ds name.now (plain_list items.now)) }
 {
     let Some(step) = bare_named(name) else {
         return Err(JobError::BadForm);
@@ -116,7 +123,8 @@ fn bare_step_from(name: &str, items: &[SExpr]) -> Result<BareStep, JobError>
 
 /// The step that an expression states, its terms as they are built.
 fn step_from(alloc: Global, declared: &Declared, expression: &SExpr) -> Result<Step, JobError>
-    ensures { (ds : Stated) → HasDeclared declared.now ds → IsReadAs plain_step result (mapped built_step (stated.step_of ds (plain expression.now))) }
+    ensures { (ds : Stated) → HasDeclared declared.now ds →
+        IsReadAs plain_step result (mapped built_step (stated.step_of ds (plain expression.now))) }
 {
     let (name, items) = head_from(expression)?;
     if name.as_str() == "assert" {
@@ -141,7 +149,9 @@ fn levels_after(levels: usize, step: &Step) -> Result<usize, JobError>
 
 /// The steps that expressions state, in order.
 fn steps_from(alloc: Global, declared: &Declared, items: &[SExpr]) -> Result<StepList, JobError>
-    ensures { (ds : Stated) → HasDeclared declared.now ds → IsReadAs plain_steps result (mapped built_steps (stated.steps_of ds 0 (plain_list items.now))) }
+    ensures { (ds : Stated) → HasDeclared declared.now ds →
+        IsReadAs plain_steps result
+        (mapped built_steps (stated.steps_of ds 0 (plain_list items.now))) }
 {
     let mut steps = StepList::new(alloc);
     let mut levels = 0;
@@ -164,7 +174,9 @@ fn one_assertion(alloc: Global, terms: TermList) -> Result<StepList, TermError>
 
 /// The steps of the section that an expression states.
 fn section_from(alloc: Global, declared: &Declared, section: &SExpr) -> Result<StepList, JobError>
-    ensures { (ds : Stated) → HasDeclared declared.now ds → IsReadAs plain_steps result (mapped (λ x. built_steps x.1) (section_in ds (plain section.now))) }
+    ensures { (ds : Stated) → HasDeclared declared.now ds →
+        IsReadAs plain_steps result
+        (mapped (λ x. built_steps x.1) (section_in ds (plain section.now))) }
 {
     let (name, items) = head_from(section)?;
     match name.as_str() {
@@ -179,7 +191,9 @@ fn section_from(alloc: Global, declared: &Declared, section: &SExpr) -> Result<S
 
 /// The steps of the last section, behind which nothing may stand.
 fn last_from(alloc: Global, declared: &Declared, items: &[SExpr]) -> Result<StepList, JobError>
-    ensures { (ds : Stated) → HasDeclared declared.now ds → IsReadAs plain_steps result (mapped (λ x. built_steps x.1) (jobs.steps_last ds (plain_list items.now))) }
+    ensures { (ds : Stated) → HasDeclared declared.now ds →
+        IsReadAs plain_steps result
+        (mapped (λ x. built_steps x.1) (jobs.steps_last ds (plain_list items.now))) }
 {
     let (last, others) = first_apart(items)?;
     let steps = section_from(alloc, declared, last)?;
@@ -219,7 +233,8 @@ pub fn read_job_expr(alloc: Global, e: &SExpr) -> Result<Job, JobError>
 /// The first fault of an expression that states no term, as [`JobError`] orders those of a term. `Memory`, where there is none for
 /// the term.
 pub fn read_term_expr(alloc: Global, job: &Job, e: &SExpr) -> Result<Term, JobError>
-    ensures stated { IsReadAs plain_term result (mapped built (term_of (declared_by (plain_job job.now)) (plain e.now))) }
+    ensures stated { IsReadAs plain_term result
+        (mapped built (term_of (declarations_of (plain_job job.now)) (plain e.now))) }
     ensures never_no_boolean { IfErr result (λ error. error ≡ JobError.NotBool → ⊥) }
 {
     let declared = job.declared(alloc)?;

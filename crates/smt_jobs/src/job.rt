@@ -1,11 +1,12 @@
+#![tactic(auto, using(smt_term::specs::View::views, smt_sexpr::specs::View::views))]
 // Jobs: declarations and steps in one S-expression.
 ghost use Rattle.std.specs.Prelude.{◌≡◌, ◌↔◌, IfErr, IfOk, IsErrOf, IsOkUnless, map};
 ghost use Rattle.smt_term.specs.View.{plain_items, plain_term};
-ghost use Rattle.law_jobs.specs.Jobs.{IsBuiltFrom, IsTooLong};
+ghost use Rattle.law_jobs.specs.Jobs.{IsBuiltFrom, IsTooLong, declarations_of};
 ghost use Rattle.law_jobs.specs.Steps as stated;
 ghost use Rattle.law_jobs.specs.Steps.{Section as StatedSection};
-ghost use Rattle.smt_job_declarations.specs.DeclarationView.{HasDeclared};
-ghost use Rattle.smt_jobs.specs.JobView.{declared_by, plain_job};
+ghost use Rattle.smt_job_terms.specs.DeclarationView.{HasDeclared};
+ghost use Rattle.smt_jobs.specs.JobView.{plain_job};
 ghost use Rattle.smt_jobs.specs.Numbered.{numbered_job};
 ghost use Rattle.smt_jobs.specs.Refused.{IsRefusal};
 ghost use Rattle.smt_jobs.specs.StepView.{plain_section, plain_steps};
@@ -13,7 +14,7 @@ ghost use Rattle.smt_jobs.specs.StepView.{plain_section, plain_steps};
 use crate::numbered::{NumberedJob, NumberedSteps};
 use crate::steps::{BareStep, Step, StepList, current_behind};
 use crate::walk::{StepSink, walk_job};
-use smt_job_declarations::{Declared, Functions, JobError, UufList, VarList, Variables};
+use smt_job_terms::{Declared, Functions, JobError, UufList, VarList, Variables};
 use smt_term::{EnumTable, Term, TermError, TermList};
 use std::alloc::Global;
 
@@ -43,7 +44,8 @@ impl Job {
     ///
     /// `Memory`, where there is none for the list.
     pub fn current(&self, alloc: Global) -> Result<TermList, JobError>
-        ensures current { IfOk result (λ terms. plain_items terms ≡ stated.current (plain_steps self.now.steps)) }
+        ensures current { IfOk result
+            (λ terms. plain_items terms ≡ stated.current (plain_steps self.now.steps)) }
         ensures refusal { IsOkUnless result JobError.Memory }
     {
         current_behind(alloc, self.steps.items())
@@ -56,7 +58,8 @@ impl Job {
     ///
     /// `Memory`, where there is none for the declarations.
     pub fn declared(&self, alloc: Global) -> Result<Declared, JobError>
-        ensures declares { IfOk result (λ declared. HasDeclared declared (declared_by (plain_job self.now))) }
+        ensures declares { IfOk result
+            (λ declared. HasDeclared declared (declarations_of (plain_job self.now))) }
         ensures refusal { IsOkUnless result JobError.Memory }
     {
         Ok(Declared {
@@ -121,9 +124,11 @@ impl StepSink for ReadSteps {
 /// # Errors
 ///
 /// `TooLarge` comes exactly where there are more than 16777216 bytes. Each other refusal but `Memory` is the first fault of bytes
-/// that are no job, as [`JobError`] orders them: `Parse` and `TooDeep` that of bytes that are no expression. `Memory` comes where there is no memory for the job.
+/// that are no job, as [`JobError`] orders them: `Parse` and `TooDeep` that of bytes that are no expression. `Memory` comes where there is
+/// no memory for the job.
 pub fn read_job(alloc: Global, bytes: &[u8]) -> Result<Job, JobError>
-    ensures job { IfOk result (λ job. (section : StatedSection) × IsBuiltFrom bytes.now section (plain_job job)) }
+    ensures job { IfOk result
+        (λ job. (section : StatedSection) × IsBuiltFrom bytes.now section (plain_job job)) }
     ensures too_large { IsErrOf result JobError.TooLarge ↔ IsTooLong bytes.now }
     ensures refused { IfErr result (λ error. IsRefusal error bytes.now) }
 {
@@ -152,7 +157,8 @@ pub fn read_job(alloc: Global, bytes: &[u8]) -> Result<Job, JobError>
 ///
 /// As of `read_job`.
 pub fn read_numbered(alloc: Global, bytes: &[u8]) -> Result<NumberedJob, JobError>
-    ensures job { IfOk result (λ job. IsBuiltFrom bytes.now (plain_section job.section) (numbered_job job)) }
+    ensures job { IfOk result
+        (λ job. IsBuiltFrom bytes.now (plain_section job.section) (numbered_job job)) }
     ensures too_large { IsErrOf result JobError.TooLarge ↔ IsTooLong bytes.now }
     ensures refused { IfErr result (λ error. IsRefusal error bytes.now) }
 {

@@ -1,3 +1,4 @@
+#![tactic(auto, using(smt_term::specs::View::views, smt_sexpr::specs::View::views))]
 // A job whose terms are numbered nodes, so that no term is kept.
 ghost use Rattle.std.specs.Prelude.{IsTrue};
 ghost use Rattle.smt_jobs.specs.Numbers.{all_stand, all_steps_stand};
@@ -5,7 +6,7 @@ ghost use Rattle.smt_jobs.specs.Numbers.{all_stand, all_steps_stand};
 use crate::direct::{Known, condition_at};
 use crate::steps::{BareStep, Section};
 use crate::walk::StepSink;
-use smt_job_declarations::{Declared, UufList, VarList};
+use smt_job_terms::{Declared, UufList, VarList};
 use smt_nodes::{Interner, NodeId};
 use smt_term::{EnumTable, Term, TermError};
 use std::alloc::Global;

@@ -1,10 +1,11 @@
+#![tactic(auto, using(smt_term::specs::View::views, smt_sexpr::specs::View::views))]
 // The steps of a job: what is asserted, where levels are opened and closed, and where a solver is asked.
 ghost use Rattle.std.specs.Prelude.{◌≡◌, ◌++◌, ◌∷◌, [], IfOk, IsOkUnless, OnErr, OnOk, length, map};
-ghost use Rattle.smt_term.specs.View.{plain_items, plain_term};
+ghost use Rattle.smt_term.specs.View.{plain_items, plain_term, plain_terms};
 ghost use Rattle.law_jobs.specs.Steps.{current};
 ghost use Rattle.smt_jobs.specs.StepView.{plain_bare_step, plain_step, plain_steps};
 
-use smt_job_declarations::JobError;
+use smt_job_terms::JobError;
 use smt_term::{Term, TermError, TermList};
 use std::alloc::Global;
 
@@ -91,7 +92,8 @@ impl StepList {
     /// # Errors
     /// `Memory`, where there is none for the step.
     pub fn push(&mut self, item: Step) -> Result<(), TermError>
-        ensures ok { OnOk result (plain_steps self.new ≡ plain_steps self.old ++ plain_step item ∷ []) }
+        ensures ok { OnOk result
+            (plain_steps self.new ≡ plain_steps self.old ++ plain_step item ∷ []) }
         ensures err { OnErr result (plain_steps self.new ≡ plain_steps self.old) }
     {
         self.items.push(item)?;
@@ -129,7 +131,8 @@ impl StepList {
 
 /// Appends references to these terms.
 fn append<'t>(current: &mut Vec<&'t Term>, terms: &'t [Term]) -> Result<(), TermError>
-    ensures { OnOk result (map (λ term. plain_term term.now) current.new.items ≡ map (λ term. plain_term term.now) current.old.items ++ map plain_term terms.now) }
+    ensures { OnOk result (map (λ term. plain_term term.now) current.new.items
+        ≡ map (λ term. plain_term term.now) current.old.items ++ plain_terms terms.now) }
 {
     for term in terms {
         current.push(term)?;
@@ -139,7 +142,8 @@ fn append<'t>(current: &mut Vec<&'t Term>, terms: &'t [Term]) -> Result<(), Term
 
 /// The terms that are current behind all of these steps.
 pub(crate) fn current_behind(alloc: Global, steps: &[Step]) -> Result<TermList, JobError>
-    ensures current { IfOk result (λ terms. plain_items terms ≡ current (map plain_step steps.now)) }
+    ensures current { IfOk result
+        (λ terms. plain_items terms ≡ current (map plain_step steps.now)) }
     ensures refusal { IsOkUnless result JobError.Memory }
 {
     let mut current: Vec<&Term> = Vec::new(alloc);

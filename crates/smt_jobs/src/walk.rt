@@ -1,40 +1,47 @@
+#![tactic(auto, using(smt_term::specs::View::views, smt_sexpr::specs::View::views))]
 // The walk over the bytes of a job: its parts are read one behind the other, and each expression is let go once it is used.
-ghost use Rattle.std.specs.Prelude.{ℕ, List, ◌≡◌, ◌+◌, ◌-◌, ◌^◌, ◌<◌, ◌≤◌, ◌↔◌, ◌++◌, ◌∷◌, [], Err, Ok, IfErr, IfNone, IfOk, IfSome, OnOk, IsErrOf, codes, length, map};
+ghost use Rattle.std.specs.Prelude.{ℕ, List, ◌≡◌, ◌+◌, ◌-◌, ◌^◌, ◌<◌, ◌≤◌, ◌↔◌, ◌++◌, ◌∷◌, [], Err};
+ghost use Rattle.std.specs.Prelude.{Ok, IfErr, IfNone, IfOk, IfSome, OnOk};
+ghost use Rattle.std.specs.Prelude.{IsErrOf, codes, length, map};
 ghost use Rattle.std.specs.Rc.{rc_str_bytes};
 ghost use Rattle.law_folding.specs.Built.{built};
 ghost use Rattle.law_terms.specs.Plain.{PlainTerm};
-ghost use Rattle.smt_types.specs.Enums.{enums_of};
+ghost use Rattle.smt_term.specs.Enums.{enums_of};
 ghost use Rattle.smt_term.specs.View.{plain_term};
 ghost use Rattle.law_texts.specs.Reads.{IfRead, IfUnread};
 ghost use Rattle.law_texts.specs.Lexicon.{Begin, End, Name, Token, Word};
 ghost use Rattle.law_texts.specs.Reading.{Expression, Expressions, brackets, nesting};
 ghost use Rattle.law_texts.specs.Tokens.{HasTokens, IsReadWithin, Spans};
-ghost use Rattle.smt_sexpr.specs.View.{plain};
+ghost use Rattle.smt_sexpr.specs.View.{plain, plain_list};
 ghost use Rattle.law_jobs.specs.Declarations.{Declared as Stated, functions_of, variables_of};
 ghost use Rattle.law_jobs.specs.Enums.{enums_in};
 ghost use Rattle.law_jobs.specs.Jobs as stated;
 ghost use Rattle.law_jobs.specs.Jobs.{IsTooLong, greatest_nesting};
 ghost use Rattle.law_jobs.specs.Outcomes.{FormFault};
 ghost use Rattle.law_jobs.specs.Steps as steps;
-ghost use Rattle.law_jobs.specs.Steps.{AssertStep, PlainStep, built_step, built_steps, headed, nothing_more, step_named, steps_of};
+ghost use Rattle.law_jobs.specs.Steps.{AssertStep, PlainStep, built_step, built_steps, headed};
+ghost use Rattle.law_jobs.specs.Steps.{nothing_more, step_named, steps_of};
 ghost use Rattle.law_jobs.specs.Terms.{condition_of, conditions_of};
-ghost use Rattle.smt_job_declarations.specs.DeclarationView as view;
-ghost use Rattle.smt_job_declarations.specs.DeclarationView.{HasDeclared, HasFunctions, HasVariables, declared_in};
-ghost use Rattle.smt_job_declarations.specs.ReadAs.{IsFault, IsReadAs, plain_list};
+ghost use Rattle.smt_job_terms.specs.DeclarationView as view;
+ghost use Rattle.smt_job_terms.specs.DeclarationView.{HasDeclared, HasFunctions, HasVariables};
+ghost use Rattle.smt_job_terms.specs.DeclarationView.{stated_in};
+ghost use Rattle.smt_job_terms.specs.ReadAs.{IsFault, IsReadAs};
 ghost use Rattle.smt_jobs.specs.Direct.{IsTakenCondition, ReadsOf};
 ghost use Rattle.smt_jobs.specs.Refused.{IsFirstFault, IsRefusal};
 ghost use Rattle.smt_jobs.specs.StepView.{plain_bare_step, plain_section};
-ghost use Rattle.smt_jobs.specs.Walk.{Begins, BeginsInside, Gives, GivesFirst, ReadsInside, ReadsOne, ReadsSome, Takes, TakesJob, alone, first_and_others, first_by, named_in, section_in, step_in};
+ghost use Rattle.smt_jobs.specs.Walk.{Begins, BeginsInside, Gives, GivesFirst, ReadsInside};
+ghost use Rattle.smt_jobs.specs.Walk.{ReadsOne, ReadsSome, Takes, TakesJob, alone};
+ghost use Rattle.smt_jobs.specs.Walk.{first_and_others, first_by, named_in, section_in, step_in};
 
 use crate::job::{GREATEST_JOB, GREATEST_NESTING};
 use crate::steps::{BareStep, Section};
-use crate::term::condition_from;
-use smt_job_declarations::{
-    Declared, Functions, JobError, Variables, enums_from, functions_from, name_in, section,
+use smt_job_terms::{
+    Declared, Functions, JobError, Variables, condition_from, enums_from, functions_from,
     variables_from,
 };
 use smt_sexpr::{
-    SExpr, SExprParseError, behind_close, behind_open, is_blank, parse_sexpr_within, read_next,
+    SExpr, SExprParseError, behind_close, behind_open, is_blank, name_in, parse_sexpr_within,
+    read_next, section,
 };
 use smt_term::{EnumTable, Term, TermError, Text};
 use smt_text::share_text;
@@ -71,14 +78,17 @@ pub trait StepSink {
         src: &'t [u8],
         depth: usize,
     ) -> Result<Option<&'t [u8]>, TermError>
-        ensures read { IfRead result (λ rest. ReadsOf (IsTakenCondition declared.now (begun self.old) (begun self.new)) src.now depth rest.now) }
+        ensures read { IfRead result (λ rest.
+            ReadsOf (IsTakenCondition declared.now (begun self.old) (begun self.new)) src.now depth
+            rest.now) }
         ensures unread { IfUnread result (begun self.new ≡ begun self.old) }
         ensures taken { OnOk result (taken self.new ≡ taken self.old) }
         ensures shorter { IfRead result (λ rest. length rest.now < length src.now) };
 
     /// Takes the step that asserts the terms that were taken since the last assertion.
     fn end_assertion(&mut self) -> Result<(), TermError>
-        ensures taken { OnOk result (taken self.new ≡ taken self.old ++ AssertStep (begun self.old) ∷ []) }
+        ensures taken { OnOk result
+            (taken self.new ≡ taken self.old ++ AssertStep (begun self.old) ∷ []) }
         ensures begun { OnOk result (begun self.new ≡ []) };
 
     /// Takes a step that has no terms.
@@ -92,7 +102,8 @@ fn next_expression(alloc: Global, src: &[u8], depth: usize) -> Result<(SExpr, &[
     ensures read { IfOk result (λ x. Spans src.now (brackets (plain x.0)) x.1.now) }
     ensures shallow { IfOk result (λ x. nesting (plain x.0) ≤ depth) }
     ensures stated { (es : Expressions) (end : List Token) → BeginsInside depth es src.now end →
-        Gives (λ x p. (p.0 ≡ plain x.0) × BeginsInside depth p.1 x.1.now end) result (first_and_others es) }
+        Gives (λ x p. (p.0 ≡ plain x.0) × BeginsInside depth p.1 x.1.now end) result
+        (first_and_others es) }
     ensures shorter { IfOk result (λ x. length x.1.now < length src.now) }
     ensures form { IfErr result (λ error. IsFault error FormFault) }
 {
@@ -103,9 +114,11 @@ fn next_expression(alloc: Global, src: &[u8], depth: usize) -> Result<(SExpr, &[
 /// The name in front of what stands in brackets, and what stands behind the name.
 fn read_head(alloc: Global, src: &[u8], depth: usize) -> Result<(Text, &[u8]), JobError>
     requires may_open { 0 < depth }
-    ensures read { IfOk result (λ x. Spans src.now (Begin ∷ Word (Name (rc_str_bytes x.0)) ∷ []) x.1.now) }
+    ensures read { IfOk result
+        (λ x. Spans src.now (Begin ∷ Word (Name (rc_str_bytes x.0)) ∷ []) x.1.now) }
     ensures stated { (e : Expression) (end : List Token) → Begins depth e src.now end →
-        Gives (λ x p. (rc_str_bytes x.0 ≡ p.0) × BeginsInside (depth - 1) p.1 x.1.now end) result (headed e) }
+        Gives (λ x p. (rc_str_bytes x.0 ≡ p.0) × BeginsInside (depth - 1) p.1 x.1.now end) result
+        (headed e) }
     ensures shorter { IfOk result (λ x. length x.1.now < length src.now) }
     ensures form { IfErr result (λ error. IsFault error FormFault) }
 {
@@ -121,9 +134,11 @@ fn read_head(alloc: Global, src: &[u8], depth: usize) -> Result<(Text, &[u8]), J
 
 /// What stands in the brackets of a job.
 fn enter_job(alloc: Global, src: &[u8]) -> Result<&[u8], JobError>
-    ensures read { IfOk result (λ rest. Spans src.now (Begin ∷ Word (Name (codes "job")) ∷ []) rest.now) }
+    ensures read { IfOk result
+        (λ rest. Spans src.now (Begin ∷ Word (Name (codes "job")) ∷ []) rest.now) }
     ensures stated { (e : Expression) (end : List Token) → Begins greatest_nesting e src.now end →
-        Gives (λ rest es. BeginsInside (greatest_nesting - 1) es rest.now end) result (stated.section_of (codes "job") e) }
+        Gives (λ rest es. BeginsInside (greatest_nesting - 1) es rest.now end) result
+        (stated.section_of (codes "job") e) }
 {
     let (name, inside) = read_head(alloc, src, GREATEST_NESTING)?;
     if name.as_str() == "job" {
@@ -135,7 +150,8 @@ fn enter_job(alloc: Global, src: &[u8]) -> Result<&[u8], JobError>
 
 /// What stands behind this head in brackets.
 pub(crate) fn section_of<'e>(head: &str, expression: &'e SExpr) -> Result<&'e [SExpr], JobError>
-    ensures { IsReadAs (λ items. plain_list items.now) result (stated.section_of head.now (plain expression.now)) }
+    ensures { IsReadAs (λ items. plain_list items.now) result
+        (stated.section_of head.now (plain expression.now)) }
 {
     section(head, expression).ok_or(JobError::BadForm)
 }
@@ -143,7 +159,8 @@ pub(crate) fn section_of<'e>(head: &str, expression: &'e SExpr) -> Result<&'e [S
 /// The enum types that the section at the front declares, and what stands behind it.
 fn read_enums(alloc: Global, src: &[u8]) -> Result<(EnumTable, &[u8]), JobError>
     ensures read { IfOk result (λ x. ReadsOne src.now (greatest_nesting - 1) x.1.now) }
-    ensures stated { GivesFirst enums_of src.now result (stated.section_first (codes "enums") enums_in) }
+    ensures stated { GivesFirst enums_of src.now result
+        (stated.section_first (codes "enums") enums_in) }
 {
     let (section, rest) = next_expression(alloc, src, NESTING_IN_JOB)?;
     let enums = enums_from(alloc, section_of("enums", &section)?)?;
@@ -153,7 +170,8 @@ fn read_enums(alloc: Global, src: &[u8]) -> Result<(EnumTable, &[u8]), JobError>
 /// The variables that the section at the front declares, and what stands behind it.
 fn read_variables(alloc: Global, src: &[u8]) -> Result<(Variables, &[u8]), JobError>
     ensures read { IfOk result (λ x. ReadsOne src.now (greatest_nesting - 1) x.1.now) }
-    ensures stated { GivesFirst (λ v. view.declarations v.vars) src.now result (stated.section_first (codes "vars") variables_of) }
+    ensures stated { GivesFirst (λ v. view.declarations v.vars) src.now result
+        (stated.section_first (codes "vars") variables_of) }
     ensures declares { IfOk result (λ x. HasVariables x.0 (view.declarations x.0.vars)) }
 {
     let (section, rest) = next_expression(alloc, src, NESTING_IN_JOB)?;
@@ -164,7 +182,8 @@ fn read_variables(alloc: Global, src: &[u8]) -> Result<(Variables, &[u8]), JobEr
 /// The functions that the section at the front declares, and what stands behind it.
 fn read_functions(alloc: Global, src: &[u8]) -> Result<(Functions, &[u8]), JobError>
     ensures read { IfOk result (λ x. ReadsOne src.now (greatest_nesting - 1) x.1.now) }
-    ensures stated { GivesFirst (λ f. view.functions f.funs) src.now result (stated.section_first (codes "funs") functions_of) }
+    ensures stated { GivesFirst (λ f. view.functions f.funs) src.now result
+        (stated.section_first (codes "funs") functions_of) }
     ensures declares { IfOk result (λ x. HasFunctions x.0 (view.functions x.0.funs)) }
 {
     let (section, rest) = next_expression(alloc, src, NESTING_IN_JOB)?;
@@ -176,8 +195,8 @@ fn read_functions(alloc: Global, src: &[u8]) -> Result<(Functions, &[u8]), JobEr
 /// before the next, so the first fault from the left is told, also where a section is missing behind it.
 fn read_declarations(alloc: Global, src: &[u8]) -> Result<(Declared, &[u8]), JobError>
     ensures read { IfOk result (λ x. ReadsSome src.now (greatest_nesting - 1) x.1.now) }
-    ensures stated { GivesFirst declared_in src.now result stated.declared_first }
-    ensures declares { IfOk result (λ x. HasDeclared x.0 (declared_in x.0)) }
+    ensures stated { GivesFirst stated_in src.now result stated.declared_first }
+    ensures declares { IfOk result (λ x. HasDeclared x.0 (stated_in x.0)) }
 {
     let (enums, rest) = read_enums(alloc, src)?;
     let (variables, rest) = read_variables(alloc, rest)?;
@@ -200,9 +219,13 @@ fn take_term<'t, T: StepSink>(
     depth: usize,
     out: &mut T,
 ) -> Result<&'t [u8], JobError>
-    ensures read { IfOk result (λ rest. (e : Expression) × Spans src.now (brackets e) rest.now × (nesting e ≤ depth)) }
-    ensures stated { (ds : Stated) → HasDeclared declared.now ds → (es : Expressions) (end : List Token) → BeginsInside depth es src.now end →
-        Gives (λ rest p. (T.begun out.new ≡ T.begun out.old ++ built p.0 ∷ []) × BeginsInside depth p.1 rest.now end) result (first_by (condition_of ds) es) }
+    ensures read { IfOk result
+        (λ rest. (e : Expression) × Spans src.now (brackets e) rest.now × (nesting e ≤ depth)) }
+    ensures stated { (ds : Stated) → HasDeclared declared.now ds →
+        (es : Expressions) (end : List Token) → BeginsInside depth es src.now end →
+        Gives (λ rest p.
+        (T.begun out.new ≡ T.begun out.old ++ built p.0 ∷ []) × BeginsInside depth p.1 rest.now end)
+        result (first_by (condition_of ds) es) }
     ensures taken { OnOk result (T.taken out.new ≡ T.taken out.old) }
     ensures shorter { IfOk result (λ rest. length rest.now < length src.now) }
 {
@@ -223,8 +246,11 @@ fn take_terms<'t, T: StepSink>(
     out: &mut T,
 ) -> Result<&'t [u8], JobError>
     ensures read { IfOk result (λ rest. ReadsInside src.now depth rest.now) }
-    ensures stated { (ds : Stated) → HasDeclared declared.now ds → (es : Expressions) (end : List Token) → BeginsInside depth es src.now end →
-        Gives (λ rest written. HasTokens rest.now end × (T.begun out.new ≡ T.begun out.old ++ map built written)) result (conditions_of ds es) }
+    ensures stated { (ds : Stated) → HasDeclared declared.now ds →
+        (es : Expressions) (end : List Token) → BeginsInside depth es src.now end →
+        Gives (λ rest written.
+        HasTokens rest.now end × (T.begun out.new ≡ T.begun out.old ++ map built written))
+        result (conditions_of ds es) }
     ensures taken { OnOk result (T.taken out.new ≡ T.taken out.old) }
     ensures shorter { IfOk result (λ rest. length rest.now < length src.now) }
 {
@@ -248,8 +274,12 @@ fn take_assertion<'t, T: StepSink>(
 ) -> Result<&'t [u8], JobError>
     requires idle { T.begun out.old ≡ [] }
     ensures read { IfOk result (λ rest. ReadsInside src.now depth rest.now) }
-    ensures stated { (ds : Stated) → HasDeclared declared.now ds → (es : Expressions) (end : List Token) → BeginsInside depth es src.now end →
-        Gives (λ rest written. HasTokens rest.now end × (T.taken out.new ≡ T.taken out.old ++ AssertStep (map built written) ∷ [])) result (conditions_of ds es) }
+    ensures stated { (ds : Stated) → HasDeclared declared.now ds →
+        (es : Expressions) (end : List Token) → BeginsInside depth es src.now end →
+        Gives (λ rest written.
+        HasTokens rest.now end
+        × (T.taken out.new ≡ T.taken out.old ++ AssertStep (map built written) ∷ []))
+        result (conditions_of ds es) }
     ensures idle { OnOk result (T.begun out.new ≡ []) }
     ensures shorter { IfOk result (λ rest. length rest.now < length src.now) }
 {
@@ -260,8 +290,11 @@ fn take_assertion<'t, T: StepSink>(
 
 /// The step without terms of this name.
 pub(crate) fn bare_named(name: &str) -> Option<BareStep>
-    ensures found { IfSome result (λ step. (ds : Stated) (es : Expressions) → step_named ds name.now es ≡ alone (plain_bare_step step) es) }
-    ensures none { IfNone result ((ds : Stated) (es : Expressions) → (name.now ≡ codes "assert" → ⊥) → step_named ds name.now es ≡ Err FormFault) }
+    ensures found { IfSome result (λ step.
+        (ds : Stated) (es : Expressions) →
+        step_named ds name.now es ≡ alone (plain_bare_step step) es) }
+    ensures none { IfNone result ((ds : Stated) (es : Expressions) →
+        (name.now ≡ codes "assert" → ⊥) → step_named ds name.now es ≡ Err FormFault) }
 {
     match name {
         "push" => Some(BareStep::Push),
@@ -287,7 +320,9 @@ fn levels_behind(levels: usize, step: BareStep) -> Result<usize, JobError>
 /// What stands behind the closing bracket at the front.
 fn close(src: &[u8]) -> Result<&[u8], JobError>
     ensures read { IfOk result (λ rest. Spans src.now (End ∷ []) rest.now) }
-    ensures stated { (depth : ℕ) (es : Expressions) (end : List Token) → BeginsInside depth es src.now end → Gives (λ rest u. HasTokens rest.now end) result (nothing_more es) }
+    ensures stated { (depth : ℕ) (es : Expressions) (end : List Token) →
+        BeginsInside depth es src.now end →
+        Gives (λ rest u. HasTokens rest.now end) result (nothing_more es) }
     ensures shorter { IfOk result (λ rest. length rest.now < length src.now) }
 {
     let Some(after) = behind_close(src) else {
@@ -306,8 +341,12 @@ fn take_bare_step<'t, T: StepSink>(
     requires few { levels + 1 < 2 ^ 64 }
     requires other { name.now ≡ codes "assert" → ⊥ }
     ensures read { IfOk result (λ x. ReadsInside src.now (greatest_nesting - 3) x.0.now) }
-    ensures stated { (ds : Stated) (es : Expressions) (end : List Token) → BeginsInside (greatest_nesting - 3) es src.now end →
-        Gives (λ x p. (x.1 ≡ p.1) × (T.taken out.new ≡ T.taken out.old ++ built_step p.0 ∷ []) × HasTokens x.0.now end) result (named_in ds levels name.now es) }
+    ensures stated { (ds : Stated) (es : Expressions) (end : List Token) →
+        BeginsInside (greatest_nesting - 3) es src.now end →
+        Gives (λ x p.
+        (x.1 ≡ p.1) × (T.taken out.new ≡ T.taken out.old ++ built_step p.0 ∷ [])
+        × HasTokens x.0.now end)
+        result (named_in ds levels name.now es) }
     ensures begun { OnOk result (T.begun out.new ≡ T.begun out.old) }
     ensures shorter { IfOk result (λ x. length x.0.now < length src.now) }
     ensures most { IfOk result (λ x. x.1 ≤ levels + 1) }
@@ -333,8 +372,12 @@ fn take_step<'t, T: StepSink>(
     requires few { levels + 1 < 2 ^ 64 }
     requires idle { T.begun out.old ≡ [] }
     ensures read { IfOk result (λ x. ReadsOne src.now (greatest_nesting - 2) x.0.now) }
-    ensures stated { (ds : Stated) → HasDeclared declared.now ds → (es : Expressions) (end : List Token) → BeginsInside (greatest_nesting - 2) es src.now end →
-        Gives (λ x p. (x.1 ≡ p.0.1) × (T.taken out.new ≡ T.taken out.old ++ built_step p.0.0 ∷ []) × BeginsInside (greatest_nesting - 2) p.1 x.0.now end) result (first_by (step_in ds levels) es) }
+    ensures stated { (ds : Stated) → HasDeclared declared.now ds →
+        (es : Expressions) (end : List Token) → BeginsInside (greatest_nesting - 2) es src.now end →
+        Gives (λ x p.
+        (x.1 ≡ p.0.1) × (T.taken out.new ≡ T.taken out.old ++ built_step p.0.0 ∷ [])
+        × BeginsInside (greatest_nesting - 2) p.1 x.0.now end)
+        result (first_by (step_in ds levels) es) }
     ensures idle { OnOk result (T.begun out.new ≡ []) }
     ensures shorter { IfOk result (λ x. length x.0.now < length src.now) }
     ensures most { IfOk result (λ x. x.1 ≤ levels + 1) }
@@ -358,8 +401,11 @@ fn take_steps<'t, T: StepSink>(
 ) -> Result<&'t [u8], JobError>
     requires idle { T.begun out.old ≡ [] }
     ensures read { IfOk result (λ rest. ReadsInside src.now (greatest_nesting - 2) rest.now) }
-    ensures stated { (ds : Stated) → HasDeclared declared.now ds → (es : Expressions) (end : List Token) → BeginsInside (greatest_nesting - 2) es src.now end →
-        Gives (λ rest written. HasTokens rest.now end × (T.taken out.new ≡ T.taken out.old ++ built_steps written)) result (steps_of ds 0 es) }
+    ensures stated { (ds : Stated) → HasDeclared declared.now ds →
+        (es : Expressions) (end : List Token) → BeginsInside (greatest_nesting - 2) es src.now end →
+        Gives (λ rest written.
+        HasTokens rest.now end × (T.taken out.new ≡ T.taken out.old ++ built_steps written))
+        result (steps_of ds 0 es) }
     ensures idle { OnOk result (T.begun out.new ≡ []) }
 {
     let mut rest = src;
@@ -383,8 +429,12 @@ fn take_section<'t, T: StepSink>(
 ) -> Result<(&'t [u8], Section), JobError>
     requires idle { T.begun out.old ≡ [] }
     ensures read { IfOk result (λ x. ReadsOne src.now (greatest_nesting - 1) x.0.now) }
-    ensures stated { (ds : Stated) → HasDeclared declared.now ds → (es : Expressions) (end : List Token) → BeginsInside (greatest_nesting - 1) es src.now end →
-        Gives (λ x p. (plain_section x.1 ≡ p.0.0) × (T.taken out.new ≡ T.taken out.old ++ built_steps p.0.1) × BeginsInside (greatest_nesting - 1) p.1 x.0.now end) result (first_by (section_in ds) es) }
+    ensures stated { (ds : Stated) → HasDeclared declared.now ds →
+        (es : Expressions) (end : List Token) → BeginsInside (greatest_nesting - 1) es src.now end →
+        Gives (λ x p.
+        (plain_section x.1 ≡ p.0.0) × (T.taken out.new ≡ T.taken out.old ++ built_steps p.0.1)
+        × BeginsInside (greatest_nesting - 1) p.1 x.0.now end)
+        result (first_by (section_in ds) es) }
     ensures idle { OnOk result (T.begun out.new ≡ []) }
 {
     let (name, inside) = read_head(alloc, src, NESTING_IN_JOB)?;
@@ -404,7 +454,8 @@ fn take_section<'t, T: StepSink>(
 /// Refuses what stands behind the closing bracket of a job, and where it does not close.
 fn finish(src: &[u8]) -> Result<(), JobError>
     ensures read { IfOk result (λ u. HasTokens src.now (End ∷ [])) }
-    ensures stated { (es : Expressions) → BeginsInside (greatest_nesting - 1) es src.now [] → IsReadAs (λ u. tt) result (nothing_more es) }
+    ensures stated { (es : Expressions) → BeginsInside (greatest_nesting - 1) es src.now [] →
+        IsReadAs (λ u. tt) result (nothing_more es) }
 {
     let Some(after) = behind_close(src) else {
         return Err(JobError::BadForm);
@@ -425,7 +476,9 @@ fn walk_sections<T: StepSink>(
     requires idle { T.begun out.old ≡ [] }
     ensures read { IfOk result (λ x. (e : Expression) × IsReadWithin src.now greatest_nesting e) }
     ensures stated { (e : Expression) → IsReadWithin src.now greatest_nesting e →
-        Gives (λ x job. Takes (declared_in x.0) (plain_section x.1) (T.taken out.old) (T.taken out.new) job) result (stated.job_of e) }
+        Gives
+        (λ x job. Takes (stated_in x.0) (plain_section x.1) (T.taken out.old) (T.taken out.new) job)
+        result (stated.job_of e) }
 {
     let inside = enter_job(alloc, src)?;
     let (declared, rest) = read_declarations(alloc, inside)?;
@@ -459,7 +512,9 @@ pub(crate) fn walk_job<T: StepSink>(
     out: &mut T,
 ) -> Result<(Declared, Section), JobError>
     requires idle { T.begun out.old ≡ [] }
-    ensures job { IfOk result (λ x. TakesJob bytes.now (declared_in x.0) (plain_section x.1) (T.taken out.old) (T.taken out.new)) }
+    ensures job { IfOk result (λ x.
+        TakesJob bytes.now (stated_in x.0) (plain_section x.1) (T.taken out.old)
+        (T.taken out.new)) }
     ensures too_large { IsErrOf result JobError.TooLarge ↔ IsTooLong bytes.now }
     ensures refused { IfErr result (λ error. IsRefusal error bytes.now) }
 {

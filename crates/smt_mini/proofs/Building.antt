@@ -1,24 +1,24 @@
 -- What building gates leaves.
-use Rattle.std.proofs.Common.{◌≡◌, ℕ, suc, Bool, true, false, ◌&&◌, ◌||◌, not, List, [], ◌∷◌, ◌++◌, Option, Some, None, length, map, bytes_eq, codes, refl, sym, ap, ap₂, ◌∙◌, subst, inl, inr, arith, append_assoc}
-use Rattle.std.proofs.lemmas.Bool.{and_parts, and_from, cases_Bool, false≢true}
+use Rattle.std.proofs.Common.{◌≡◌, ℕ, suc, Bool, true, false, ◌&&◌, ◌||◌, not, List, [], ◌∷◌, ◌++◌, Option, Some, None, length, map, bytes_eq, codes, refl, sym, ap, ap₂, ◌∙◌, subst, arith, append_assoc}
+use Rattle.std.proofs.lemmas.Bool.{and_parts, and_from, false≢true}
 use Rattle.std.proofs.lemmas.List.{append-nil, length-append}
-use Rattle.std.proofs.lemmas.Slice.Eq.{bytes_eq-Decides}
 use Rattle.law_texts.specs.Lexicon.{Name}
 use Rattle.law_texts.specs.Reading.{Expression, Leaf, Node, Expressions, Nil, Cons, expressions}
 use Rattle.law_texts.specs.Options.{◌>>=◌}
 use Rattle.law_scripts.specs.ScriptValues.{ScriptValue, TruthOf}
 use Rattle.law_scripts.specs.Script.{Entry, State, are_all, assertions_of, count, each_stated, has_name, has_sort, knows, name, names_of}
-use Rattle.law_scripts.specs.Sorts.{Entries, each_there, entries}
-use Rattle.law_scripts.specs.Value.{Meaning, ScriptInterpretation, applied_value, evaluate, evaluate_each, expression_value, first_sort, meaning}
+use Rattle.law_scripts.specs.Sorts.{each_there, entries}
+use Rattle.law_scripts.specs.Value.{ScriptInterpretation, applied_value, evaluate_each, expression_value, first_sort, meaning}
 use Rattle.law_verdicts.specs.Fragment.{are_formulas, is_connective, is_formula, is_truth, is_truth_name}
 use Rattle.law_verdicts.specs.Truths.{connected}
+use Rattle.law_texts.proofs.SameTexts.{other_text}
+use Rattle.law_verdicts.proofs.Truths.{applied_word, truth_values, word_gives}
 use Rattle.law_verdicts.proofs.Formulas.{IsWord, is_and, is_choice, is_equal, is_not, is_or, word_of}
 use Rattle.law_scripts.specs.Written.{is_name}
-use Rattle.smt_sexpr.specs.View.{plain}
+use Rattle.smt_sexpr.specs.View.{plain, plain_list}
 use Rattle.smt_sexpr.specs.declared.expression.SExpr.{SExpr}
-use Rattle.smt_mini.specs.Building.{Built, BuiltEach}
+use Rattle.smt_mini.specs.Building.{Built, BuiltEach, applied}
 use Rattle.smt_mini.specs.Gates.{gate_truth, gate_value, value_at, values_behind}
-use Rattle.smt_mini.specs.Parts.{applied, plain_list}
 use Rattle.smt_mini.specs.Tables.{Agrees, Fits, FitsEntry, HasValue, HaveValues, Table, by_name, found_in, gained}
 use Rattle.smt_mini.specs.declared.gate.Gate.{Gate}
 use Rattle.smt_mini.specs.declared.gate.Gate.TheVariants.{Truth}
@@ -96,79 +96,12 @@ found_flat None p h = absurd cc
 found_flat (Some None) p h = absurd cc
 found_flat (Some (Some q)) p h = ap Some h
 
--- what is another text is not equal to it
-pub other_text : (n m : List ℕ) → (n ≡ m → ⊥) → bytes_eq n m ≡ false
-other_text n m h = elim (cases_Bool (bytes_eq n m)) [
-  | inl same ↦ absurd (h ((bytes_eq-Decides n m).0 same))
-  | inr other ↦ other
-]
-
 pub name_built : (t u : Table) (s : State) (n : List ℕ) (r : Option ℕ) → Fits t s → is_truth_name s n ≡ true → (n ≡ codes "true" → ⊥) → (n ≡ codes "false" → ⊥) → r ≡ flat (found_in t n) → u ≡ t → Built t u s (name n) r
 name_built t u s n None f h a b e w = not_known s n h (other_text n (codes "true") a) (other_text n (codes "false") b) (no_truth (found_in t n) (entries s n) (f.names n) (sym e))
 name_built t u s n (Some p) f h a b e w =
     (([], w ∙ gained_nothing t), subst (λ x. HasValue x s (name n) p) (sym w) (f.values n p (found_flat (found_in t n) p (sym e))))
 
 -- ---- applications
-
--- these values
-abbrev truths : List Bool → List (Option ScriptValue)
-truths bs = map (λ b. Some (TruthOf b)) bs
-
-abbrev gives : Meaning → List ℕ → Option Expression → List Bool → Option ScriptValue
-gives env f sort bs = each_there (truths bs) >>= applied_value env f sort
-
-not_gives : (env : Meaning) (sort : Option Expression) (bs : List Bool) → length bs ≡ 1 → gives env (codes "not") sort bs ≡ Some (TruthOf (connected (codes "not") bs))
-not_gives env sort [] h = absurd cc
-not_gives env sort (a ∷ []) h = refl
-not_gives env sort (a ∷ b ∷ bs) h = absurd cc
-
-and_gives : (env : Meaning) (sort : Option Expression) (bs : List Bool) → length bs ≡ 2 → gives env (codes "and") sort bs ≡ Some (TruthOf (connected (codes "and") bs))
-and_gives env sort [] h = absurd cc
-and_gives env sort (a ∷ []) h = absurd cc
-and_gives env sort (a ∷ b ∷ []) h = refl
-and_gives env sort (a ∷ b ∷ c ∷ bs) h = absurd cc
-
-or_gives : (env : Meaning) (sort : Option Expression) (bs : List Bool) → length bs ≡ 2 → gives env (codes "or") sort bs ≡ Some (TruthOf (connected (codes "or") bs))
-or_gives env sort [] h = absurd cc
-or_gives env sort (a ∷ []) h = absurd cc
-or_gives env sort (a ∷ b ∷ []) h = refl
-or_gives env sort (a ∷ b ∷ c ∷ bs) h = absurd cc
-
-equal_gives : (env : Meaning) (sort : Option Expression) (bs : List Bool) → length bs ≡ 2 → gives env (codes "=") sort bs ≡ Some (TruthOf (connected (codes "=") bs))
-equal_gives env sort [] h = absurd cc
-equal_gives env sort (a ∷ []) h = absurd cc
-equal_gives env sort (true ∷ true ∷ []) h = refl
-equal_gives env sort (true ∷ false ∷ []) h = refl
-equal_gives env sort (false ∷ true ∷ []) h = refl
-equal_gives env sort (false ∷ false ∷ []) h = refl
-equal_gives env sort (a ∷ b ∷ c ∷ bs) h = absurd cc
-
-choice_gives : (env : Meaning) (sort : Option Expression) (bs : List Bool) → length bs ≡ 3 → gives env (codes "ite") sort bs ≡ Some (TruthOf (connected (codes "ite") bs))
-choice_gives env sort [] h = absurd cc
-choice_gives env sort (a ∷ []) h = absurd cc
-choice_gives env sort (a ∷ b ∷ []) h = absurd cc
-choice_gives env sort (true ∷ b ∷ c ∷ []) h = refl
-choice_gives env sort (false ∷ b ∷ c ∷ []) h = refl
-choice_gives env sort (a ∷ b ∷ c ∷ d ∷ bs) h = absurd cc
-
-word_gives : (env : Meaning) (sort : Option Expression) (f : List ℕ) (n : ℕ) → IsWord f n → (bs : List Bool) → length bs ≡ n → gives env f sort bs ≡ Some (TruthOf (connected f bs))
-word_gives env sort f n is_not bs h = not_gives env sort bs h
-word_gives env sort f n is_and bs h = and_gives env sort bs h
-word_gives env sort f n is_or bs h = or_gives env sort bs h
-word_gives env sort f n is_equal bs h = equal_gives env sort bs h
-word_gives env sort f n is_choice bs h = choice_gives env sort bs h
-
-word_value : (here : Entries) (env : Meaning) (f : List ℕ) (n : ℕ) → IsWord f n → (es : Expressions) → count es ≡ n → evaluate here env (Node (Cons (Leaf (Name f)) es)) ≡ (each_there (evaluate_each here env es) >>= applied_value env f (first_sort here es))
-word_value here env f n is_not Nil h = absurd cc
-word_value here env f n is_and Nil h = absurd cc
-word_value here env f n is_or Nil h = absurd cc
-word_value here env f n is_equal Nil h = absurd cc
-word_value here env f n is_choice Nil h = absurd cc
-word_value here env f n is_not (Cons e es) h = refl
-word_value here env f n is_and (Cons e es) h = refl
-word_value here env f n is_or (Cons e es) h = refl
-word_value here env f n is_equal (Cons e es) h = refl
-word_value here env f n is_choice (Cons e es) h = refl
 
 -- a connective is known where its operands are
 word_known : (s : State) (f : List ℕ) (n : ℕ) → IsWord f n → (es : Expressions) → count es ≡ n → knows s (Node (Cons (Leaf (Name f)) es)) ≡ are_all (each_stated (has_sort s) (has_name s) es)
@@ -192,7 +125,7 @@ have_known t s (e ∷ es) [] h = absurd h
 have_known t s (e ∷ es) (p ∷ ps) h = and_from (knows s e) (are_all (each_stated (has_sort s) (has_name s) (expressions es))) h.0.known (have_known t s es ps h.1)
 
 have_truths : (t : Table) (s : State) (es : List Expression) (ps : List ℕ) → HaveValues t s es ps → (f : List ℕ → Bool) (at : ℕ → Bool) → Agrees f at t.constants
-    → evaluate_each (entries s) (meaning (by_name f) (names_of s)) (expressions es) ≡ truths (map (gate_truth at t.gates) ps)
+    → evaluate_each (entries s) (meaning (by_name f) (names_of s)) (expressions es) ≡ truth_values (map (gate_truth at t.gates) ps)
 have_truths t s [] [] h f at a = refl
 have_truths t s [] (p ∷ ps) h f at a = absurd h
 have_truths t s (e ∷ es) [] h f at a = absurd h
@@ -218,7 +151,7 @@ application_has_value t s n es ps g c v h =
       within = omega (arith, length-append t.gates (g ∷ []));
       known = word_known s n (count (expressions es)) w (expressions es) refl ∙ have_known t s es ps h;
       value = λ f at a.
-          word_value (entries s) (meaning (by_name f) (names_of s)) n (count (expressions es)) w (expressions es) refl
+          applied_word (entries s) (meaning (by_name f) (names_of s)) n (count (expressions es)) w (expressions es) refl
           ∙ ap (λ vs. each_there vs >>= applied_value (meaning (by_name f) (names_of s)) n (first_sort (entries s) (expressions es))) (have_truths t s es ps h f at a)
           ∙ word_gives (meaning (by_name f) (names_of s)) (first_sort (entries s) (expressions es)) n (count (expressions es)) w (map (gate_truth at t.gates) ps) (mapped_long (gate_truth at t.gates) ps ∙ have_many t s es ps h)
           ∙ ap (λ b. Some (TruthOf b)) (sym (truth_of_last at t.gates g ∙ v at (values_behind at [] t.gates)));

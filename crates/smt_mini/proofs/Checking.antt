@@ -4,7 +4,7 @@ use Rattle.std.specs.Prelude.{IfOk, nat_le}
 use Rattle.std.specs.List.{list_all}
 use Rattle.std.specs.declared.alloc.Global.{Global}
 use Rattle.std.specs.declared.vec.Vec.{Vec}
-use Rattle.std.proofs.lemmas.Bool.{and_parts, cond-false, cond-true, false≢true, or_parts}
+use Rattle.std.proofs.lemmas.Bool.{and_parts, cond-false, cond-true, false≢true, or_parts, not-true}
 use Rattle.std.proofs.lemmas.Slice.Eq.{bytes_eq-Decides}
 use Rattle.law_texts.specs.Reading.{Expression}
 use Rattle.law_scripts.specs.Script.{State, are_distinct, assertions_of, is_in}
@@ -22,7 +22,7 @@ use Rattle.smt_mini.specs.declared.mini.Mini.{Mini}
 use Rattle.smt_mini.specs.declared.mini.Phase.TheVariants.{Inside}
 use Rattle.smt_mini.specs.declared.reply.Reply.{Reply}
 use Rattle.smt_mini.proofs.Fitting.{not_same}
-use Rattle.smt_mini.proofs.Searching.{same_such}
+use Rattle.law_verdicts.proofs.TruthRows.{same_such}
 
 -- ---- truths by place and by name
 
@@ -31,10 +31,6 @@ not_first c [] k l h = absurd (omega (arith, l))
 not_first c (d ∷ cs) zero l h = not_same d c (or_parts (bytes_eq c d) (is_in c cs) h).0
 not_first c (d ∷ cs) (suc k) l h = not_first c cs k (omega (arith, l)) (or_parts (bytes_eq c d) (is_in c cs) h).1
 
-is_not : (b : Bool) → not b ≡ true → b ≡ false
-is_not true h = absurd (false≢true h)
-is_not false h = refl
-
 truth_by_place : (cs : List (List ℕ)) (bs : List Bool) (k : ℕ) → are_distinct cs ≡ true → k < length cs → truth_at cs bs (get_or cs k []) ≡ get_or bs k false
 truth_by_place [] bs k d l = absurd (omega (arith, l))
 truth_by_place (c ∷ cs) [] k d l = refl
@@ -42,7 +38,7 @@ truth_by_place (c ∷ cs) (b ∷ bs) zero d l = cond-true (bytes_eq c c) b (trut
 truth_by_place (c ∷ cs) (b ∷ bs) (suc k) d l =
     let p = and_parts (not (is_in c cs)) (are_distinct cs) d in
     let m : k < length cs = omega (arith, l) in
-    cond-false (bytes_eq (get_or cs k []) c) b (truth_at cs bs (get_or cs k [])) (not_first c cs k m (is_not (is_in c cs) p.0)) ∙ truth_by_place cs bs k p.1 m
+    cond-false (bytes_eq (get_or cs k []) c) b (truth_at cs bs (get_or cs k [])) (not_first c cs k m (not-true (is_in c cs) p.0)) ∙ truth_by_place cs bs k p.1 m
 
 -- ---- models
 

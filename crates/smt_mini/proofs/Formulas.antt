@@ -6,9 +6,9 @@ use Rattle.law_verdicts.specs.Fragment.{are_formulas, is_connective, is_formula,
 use Rattle.law_scripts.specs.Written.{is_name}
 use Rattle.std.proofs.lemmas.List.{at_drop_more}
 use Rattle.law_texts.specs.Reading.{Expression}
-use Rattle.smt_sexpr.specs.View.{plain}
+use Rattle.smt_sexpr.specs.View.{plain, plain_list}
 use Rattle.smt_sexpr.specs.declared.expression.SExpr.{SExpr}
-use Rattle.smt_mini.specs.Parts.{applied, plain_list}
+use Rattle.smt_mini.specs.Building.{applied}
 use Rattle.smt_mini.specs.Tables.{Fits, FitsEntry, Table, found_in}
 
 -- a name is declared where it stands for something

@@ -7,9 +7,9 @@ use Rattle.std.proofs.lemmas.List.{at_drop_more}
 use Rattle.std.proofs.lemmas.Bool.{and_parts, cases_lt, false≢true}
 use Rattle.std.proofs.lemmas.Nat.Bits.{bit_at-trailing_zeros, bit_at-zero}
 use Rattle.std.specs.Int.{trailing_zeros}
-use Rattle.law_verdicts.proofs.Rows.{rows_stand_alone}
+use Rattle.law_verdicts.proofs.TruthRows.{rows_stand_alone}
 use Rattle.smt_mini.specs.Search.{may_free}
-use Rattle.law_verdicts.specs.Rows.{May, has_bit, just, row, row_truths}
+use Rattle.law_verdicts.specs.TruthRows.{May, has_bit, just, row, row_truths}
 
 -- a test of all numbers below one
 abbrev all_below : ℕ → (ℕ → Bool) → Bool

@@ -1,5 +1,5 @@
 -- What the search drops and finds.
-use Rattle.std.proofs.Common.{◌≡◌, ℕ, ◌^◌, zero, suc, ◌+◌, ◌<◌, ◌≤◌, ◌-◌, Bool, true, false, ◌&&◌, ◌||◌, not, cond, ltb, List, [], ◌∷◌, ◌++◌, length, map, get_or, refl, sym, ap, ap₂, ◌∙◌, subst, inl, inr, append_assoc, Some, None, Result, Ok, Err, arith}
+use Rattle.std.proofs.Common.{◌≡◌, ℕ, ◌^◌, zero, suc, ◌+◌, ◌<◌, ◌≤◌, ◌-◌, Bool, true, false, ◌&&◌, ◌||◌, not, ltb, List, [], ◌∷◌, ◌++◌, length, map, get_or, refl, sym, ap, ap₂, ◌∙◌, subst, inl, inr, append_assoc, Some, None, Result, Ok, Err, arith}
 use Rattle.std.specs.Prelude.{IfOk}
 use Rattle.std.specs.declared.alloc.AllocError.{AllocError}
 use Rattle.std.specs.Bool.{beq}
@@ -8,10 +8,9 @@ use Rattle.std.specs.Option.{option_or}
 use Rattle.std.proofs.lemmas.Bool.{and_parts, and_from, cases_Bool, cases_lt, false≢true}
 use Rattle.std.proofs.lemmas.List.{get_or-append_right, get_or_append_left, length-append}
 use Rattle.law_texts.specs.Options.{◌>>=◌}
-use Rattle.law_scripts.proofs.Results.{or_left, or_right}
 use Rattle.law_verdicts.specs.FirstModel.{first_such}
-use Rattle.law_verdicts.specs.Rows.{May as Possible, allows, has_bit, just, may_and, may_choose, may_equal, may_not, may_or, row_truths}
-use Rattle.law_verdicts.proofs.Rows.{least_row_is_first}
+use Rattle.law_verdicts.specs.TruthRows.{May as Possible, allows, has_bit, just, may_and, may_equal, may_not, may_or, row_truths}
+use Rattle.law_verdicts.proofs.TruthRows.{AllAllowed, and_allowed, choice_allowed, equal_allowed, just_one, just_three, least_row_is_first, not_allowed, or_allowed, same_such}
 use Rattle.std.proofs.Math.Nat.{min-eq_left, min-eq_right, min-le_right}
 use Rattle.std.proofs.Math.Pow.{pow_mono}
 use Rattle.smt_mini.proofs.RowBits.{above_is, below_is, empty_bit, row_bit, row_long, more, no_more}
@@ -22,45 +21,9 @@ use Rattle.smt_mini.specs.declared.gate.Gate.TheVariants.{Input, Truth, Not, And
 
 -- ---- what is so, may be so
 
-both : (a b : Bool) → a ≡ true → b ≡ true → (a && b) ≡ true
-both a b g h = rw (g, h) refl
-
-not_allowed : (a : Possible) (x : Bool) → allows a x ≡ true → allows (may_not a) (not x) ≡ true
-not_allowed a true h = h
-not_allowed a false h = h
-
-and_allowed : (a b : Possible) (x y : Bool) → allows a x ≡ true → allows b y ≡ true → allows (may_and a b) (x && y) ≡ true
-and_allowed a b true true g h = both a.holds b.holds g h
-and_allowed a b true false g h = or_right a.fails b.fails h
-and_allowed a b false y g h = or_left a.fails b.fails g
-
-or_allowed : (a b : Possible) (x y : Bool) → allows a x ≡ true → allows b y ≡ true → allows (may_or a b) (x || y) ≡ true
-or_allowed a b true y g h = or_left a.holds b.holds g
-or_allowed a b false true g h = or_right a.holds b.holds h
-or_allowed a b false false g h = both a.fails b.fails g h
-
-equal_allowed : (a b : Possible) (x y : Bool) → allows a x ≡ true → allows b y ≡ true → allows (may_equal a b) (beq x y) ≡ true
-equal_allowed a b true true g h = or_left (a.holds && b.holds) (a.fails && b.fails) (both a.holds b.holds g h)
-equal_allowed a b true false g h = or_left (a.holds && b.fails) (a.fails && b.holds) (both a.holds b.fails g h)
-equal_allowed a b false true g h = or_right (a.holds && b.fails) (a.fails && b.holds) (both a.fails b.holds g h)
-equal_allowed a b false false g h = or_right (a.holds && b.holds) (a.fails && b.fails) (both a.fails b.fails g h)
-
-choice_allowed : (a b c : Possible) (x y z : Bool) → allows a x ≡ true → allows b y ≡ true → allows c z ≡ true → allows (may_choose a b c) (cond x y z) ≡ true
-choice_allowed a b c true true z g h i = or_left (a.holds && b.holds) (a.fails && c.holds) (both a.holds b.holds g h)
-choice_allowed a b c true false z g h i = or_left (a.holds && b.fails) (a.fails && c.fails) (both a.holds b.fails g h)
-choice_allowed a b c false y true g h i = or_right (a.holds && b.holds) (a.fails && c.holds) (both a.fails c.holds g i)
-choice_allowed a b c false y false g h i = or_right (a.holds && b.fails) (a.fails && c.fails) (both a.fails c.fails g i)
-
 itself_allowed : (b : Bool) → allows (just b) b ≡ true
 itself_allowed true = refl
 itself_allowed false = refl
-
--- The truths are allowed, one by one.
-abbrev AllAllowed : List Possible → List Bool → Type 0
-AllAllowed [] [] = Unit {0}
-AllAllowed [] (b ∷ bs) = ⊥
-AllAllowed (m ∷ ms) [] = ⊥
-AllAllowed (m ∷ ms) (b ∷ bs) = (allows m b ≡ true) × AllAllowed ms bs
 
 place_allowed : (ms : List Possible) (bs : List Bool) → AllAllowed ms bs → (p : ℕ) → allows (may_place ms p) (value_at bs p) ≡ true
 place_allowed [] [] h p = refl
@@ -150,10 +113,6 @@ model_may gs ps total r chosen mid l h =
 
 -- ---- where all is chosen
 
-just_not : (a : Bool) → may_not (just a) ≡ just (not a)
-just_not true = refl
-just_not false = refl
-
 just_and : (a b : Bool) → may_and (just a) (just b) ≡ just (a && b)
 just_and true true = refl
 just_and true false = refl
@@ -170,12 +129,6 @@ just_equal true false = refl
 just_equal false true = refl
 just_equal false false = refl
 
-just_choice : (a b c : Bool) → may_choose (just a) (just b) (just c) ≡ just (cond a b c)
-just_choice true true c = refl
-just_choice true false c = refl
-just_choice false b true = refl
-just_choice false b false = refl
-
 place_just : (bs : List Bool) (p : ℕ) → may_place (map just bs) p ≡ just (value_at bs p)
 place_just [] p = refl
 place_just (b ∷ bs) zero = refl
@@ -184,11 +137,11 @@ place_just (b ∷ bs) (suc p) = place_just bs p
 gate_just : (may : ℕ → Possible) (at : ℕ → Bool) → ((k : ℕ) → may k ≡ just (at k)) → (bs : List Bool) (g : Gate) → may_of_gate may (map just bs) g ≡ just (gate_value at bs g)
 gate_just may at i bs (Input k) = i k
 gate_just may at i bs (Truth b) = refl
-gate_just may at i bs (Not a) = ap may_not (place_just bs a) ∙ just_not (value_at bs a)
+gate_just may at i bs (Not a) = ap may_not (place_just bs a) ∙ just_one (value_at bs a)
 gate_just may at i bs (And a b) = ap₂ may_and (place_just bs a) (place_just bs b) ∙ just_and (value_at bs a) (value_at bs b)
 gate_just may at i bs (Or a b) = ap₂ may_or (place_just bs a) (place_just bs b) ∙ just_or (value_at bs a) (value_at bs b)
 gate_just may at i bs (Eq a b) = ap₂ may_equal (place_just bs a) (place_just bs b) ∙ just_equal (value_at bs a) (value_at bs b)
-gate_just may at i bs (Ite a b c) = rw (place_just bs a, place_just bs b, place_just bs c) (just_choice (value_at bs a) (value_at bs b) (value_at bs c))
+gate_just may at i bs (Ite a b c) = rw (place_just bs a, place_just bs b, place_just bs c) (just_three (value_at bs a) (value_at bs b) (value_at bs c))
 
 just_behind : (bs : List Bool) (b : Bool) → map just bs ++ just b ∷ [] ≡ map just (bs ++ b ∷ [])
 just_behind [] b = refl
@@ -220,12 +173,6 @@ chosen_hold gs ps total r chosen h =
     ap (λ ms. list_all (λ p. (may_place ms p).holds) ps) (gates_just (may_of_input chosen total r) at (λ k. input_just chosen total r k h) [] gs) ∙ each_just (values_behind at [] gs) ps
 
 -- ---- what is found
-
-pub same_such : (n : ℕ) (f g : List Bool → Bool) → ((bs : List Bool) → f bs ≡ g bs) → first_such n f ≡ first_such n g
-same_such zero f g h = ap (λ b. cond b (Some []) None) (h [])
-same_such (suc n) f g h = ap₂ option_or
-    (ap (λ o. o >>= λ bs. Some (false ∷ bs)) (same_such n (λ bs. f (false ∷ bs)) (λ bs. g (false ∷ bs)) (λ bs. h (false ∷ bs))))
-    (ap (λ o. o >>= λ bs. Some (true ∷ bs)) (same_such n (λ bs. f (true ∷ bs)) (λ bs. g (true ∷ bs)) (λ bs. h (true ∷ bs))))
 
 -- no row behind any truths
 none_in_branch : (lanes left : ℕ) (f : List Bool → Bool) → ((mid : List Bool) → length mid ≡ left → (r : ℕ) → r < 2 ^ lanes → f (mid ++ row_truths lanes r) ≡ false) → first_such (left + lanes) f ≡ None

@@ -1,73 +1,20 @@
--- The parts of expressions of the program, and of what they say.
-use Rattle.std.proofs.Common.{◌≡◌, ℕ, ◌<◌, ◌≤◌, ◌-◌, Bool, true, false, ◌&&◌, ◌||◌, map, List, [], ◌∷◌, Option, Some, None, length, drop, take, get_or, bytes_eq, option_map, refl, sym, ap, ◌∙◌, arith}
+-- Sorts and commands by the parts of expressions.
+use Rattle.std.proofs.Common.{◌≡◌, ℕ, Bool, true, false, ◌&&◌, ◌||◌, map, List, [], ◌∷◌, Option, Some, None, bytes_eq, option_map, refl, sym, ap}
 use Rattle.std.specs.List.{list_any}
-use Rattle.std.proofs.lemmas.List.{take_all}
 use Rattle.std.specs.Option.{option_and_then}
 use Rattle.law_texts.specs.Lexicon.{Bits, Name, Number, Text}
 use Rattle.law_texts.specs.Reading.{Expression, Leaf, Node, Expressions, Nil, Cons}
 use Rattle.law_scripts.specs.Script.{DefineFun, group, is_attribute_value, is_simple_symbol, name}
 use Rattle.law_scripts.specs.Sorts.{same_sort, same_sorts}
-use Rattle.smt_sexpr.specs.View.{items_of, plain, plain-App}
-use Rattle.smt_sexpr.specs.declared.expression.SExpr.{SExpr, App}
-use Rattle.smt_sexpr.specs.declared.expression.SExprs.{SExprs}
+use Rattle.smt_sexpr.proofs.Shapes.{is_that_name}
 use Rattle.law_verdicts.specs.Fragment.{command_of, command_with, definition, option, option_named}
 use Rattle.smt_mini.specs.Commands.{signature_of}
-use Rattle.smt_mini.specs.Parts.{applied, both, first_apart, inside_of, name_in, pair_in, plain_list, sole, sole_in}
+use Rattle.law_texts.specs.Parts.{both, first_apart, inside_of, name_in, pair_in, sole, sole_in}
 
--- ---- as many expressions as a form has
-
-pub sole_few : (xs : List SExpr) → length xs < 1 → None ≡ sole (plain_list xs)
-sole_few [] l = refl
-sole_few (x ∷ xs) l = absurd (omega (arith, l))
-
-pub sole_many : (xs : List SExpr) → 2 ≤ length xs → None ≡ sole (plain_list xs)
-sole_many (x ∷ y ∷ xs) l = refl
-sole_many [] l = absurd (omega (arith, l))
-sole_many (x ∷ []) l = absurd (omega (arith, l))
-
-pub both_few : (xs : List SExpr) → length xs < 2 → None ≡ both (plain_list xs)
-both_few [] l = refl
-both_few (x ∷ []) l = refl
-both_few (x ∷ y ∷ xs) l = absurd (omega (arith, l))
-
-pub both_many : (xs : List SExpr) → 3 ≤ length xs → None ≡ both (plain_list xs)
-both_many (x ∷ y ∷ z ∷ xs) l = refl
-both_many [] l = absurd (omega (arith, l))
-both_many (x ∷ []) l = absurd (omega (arith, l))
-both_many (x ∷ y ∷ []) l = absurd (omega (arith, l))
-
--- ---- a name in front of expressions
-
--- what stands in brackets
-pub bracketed : (e : SExpr) (inside : SExprs) (xs : List SExpr) → e ≡ App inside → xs ≡ items_of inside → plain e ≡ Node (plain_list xs)
-bracketed e inside xs p q = ap plain p ∙ plain-App inside ∙ ap (λ l. Node (plain_list l)) (sym q)
-
--- the expressions behind the first
-abbrev pub others : List SExpr → List SExpr
-others xs = take (length xs - 1) (drop 1 xs)
-
-first_and_rest : (xs : List SExpr) (x : SExpr) → 1 ≤ length xs → x ≡ get_or xs 0 x → plain_list xs ≡ Cons (plain x) (plain_list (others xs))
-first_and_rest (y ∷ xs) x l e = ap (λ z. Cons (plain z) (plain_list xs)) (sym e) ∙ ap (λ ys. Cons (plain x) (plain_list ys)) (sym (take_all (length (y ∷ xs) - 1) xs (omega arith)))
-first_and_rest [] x l e = absurd (omega (arith, l))
-
-pub nothing_listed : (xs : List SExpr) → length xs < 1 → plain_list xs ≡ Nil
-nothing_listed [] l = refl
-nothing_listed (x ∷ xs) l = absurd (omega (arith, l))
-
-pub is_that_name : (e : Expression) (n : List ℕ) → Some n ≡ name_in e → e ≡ Leaf (Name n)
-is_that_name (Leaf (Name m)) n h = let e : n ≡ m = cc in ap (λ x. Leaf (Name x)) (sym e)
-is_that_name (Leaf (Bits w k)) n h = absurd cc
-is_that_name (Leaf (Number k)) n h = absurd cc
-is_that_name (Leaf (Text t)) n h = absurd cc
-is_that_name (Node es) n h = absurd cc
-
-pub headed : (e : SExpr) (inside : SExprs) (xs : List SExpr) (x : SExpr) (n : List ℕ) → e ≡ App inside → xs ≡ items_of inside → 1 ≤ length xs → x ≡ get_or xs 0 x → Some n ≡ name_in (plain x) → plain e ≡ applied n (others xs)
-headed e inside xs x n p q l h k = bracketed e inside xs p q ∙ ap Node (first_and_rest xs x l h) ∙ ap (λ d. Node (Cons d (plain_list (others xs)))) (is_that_name (plain x) n k)
+-- ---- names, and sorts by their parts
 
 pub attribute_name : (e : Expression) (n : List ℕ) → Some n ≡ name_in e → is_simple_symbol n ≡ is_attribute_value e
 attribute_name e n h = sym (ap is_attribute_value (is_that_name e n h))
-
--- ---- sorts by their parts
 
 -- the test of a name
 pub named_by : (e : Expression) (n : List ℕ) → same_sort e (name n) ≡ elim (name_in e) [ Some m ↦ bytes_eq m n | None ↦ false ]

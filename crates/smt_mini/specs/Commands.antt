@@ -8,7 +8,8 @@ use Rattle.law_scripts.specs.Script.{Command as Stated}
 use Rattle.law_scripts.specs.Written.{option_command}
 use Rattle.smt_sexpr.specs.View.{plain}
 use Rattle.smt_mini.specs.declared.command.Command.{Command}
-use Rattle.smt_mini.specs.declared.command.Command.TheVariants.{DeclareOption, DeclareConst, DefineFun, Assert, SetLogic, SetOption, CheckSat, GetModel, Reset, Exit, Push, Pop}
+use Rattle.smt_mini.specs.declared.command.Command.TheVariants.{DeclareOption, DeclareConst, DefineFun, Assert, SetLogic, SetOption}
+use Rattle.smt_mini.specs.declared.command.Command.TheVariants.{CheckSat, GetModel, Reset, Exit, Push, Pop}
 
 -- what a command says
 abbrev pub plain_command : Command → Stated

@@ -3,7 +3,6 @@ pub mod Commands
 pub mod Gates
 pub mod Levels
 pub mod OptionLine
-pub mod Parts
 pub mod Replies
 pub mod Search
 pub mod Stands

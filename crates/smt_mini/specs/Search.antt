@@ -1,8 +1,9 @@
 -- The search for the first model of a circuit.
-use Rattle.std.specs.Prelude.{◌≡◌, ◌&&◌, ◌++◌, ◌∷◌, ◌+◌, ◌-◌, ◌^◌, [], ℕ, min, nat_le, nat_lt, if◌then◌else◌, Bool, true, false, List, length, Some, None, slice_index_or}
+use Rattle.std.specs.Prelude.{◌≡◌, ◌&&◌, ◌++◌, ◌∷◌, ◌+◌, ◌-◌, ◌^◌, [], ℕ, min, nat_le, nat_lt, if◌then◌else◌, Bool, true, false, List}
+use Rattle.std.specs.Prelude.{length, Some, None, slice_index_or}
 use Rattle.std.specs.List.{list_all}
 use Rattle.law_verdicts.specs.FirstModel.{first_such}
-use Rattle.law_verdicts.specs.Rows.{May, Rows as Words, has_bit, just, may_and, may_choose, may_equal, may_not, may_or, row}
+use Rattle.law_verdicts.specs.TruthRows.{May, Rows as Words, has_bit, just, may_and, may_choose, may_equal, may_not, may_or, row}
 use Rattle.smt_mini.specs.declared.gate.Gate.{Gate}
 use Rattle.smt_mini.specs.declared.gate.Gate.TheVariants.{Input, Truth, Not, And, Or, Eq, Ite}
 use Rattle.smt_mini.specs.declared.rows.Rows.{Rows}
@@ -29,7 +30,9 @@ lanes_of total = min total 6
 -- one of so many constants whose truth is not chosen: each of the last six has in a row the bit of the row's number at its place, the
 -- last constant the lowest, and each before them may be both; there is no input behind them
 abbrev pub may_free : ℕ → ℕ → ℕ → May
-may_free total r k = if nat_lt k total then (if nat_le total (k + 6) then just (has_bit r (total - 1 - k)) else record { holds = true; fails = true }) else just false
+may_free total r k =
+    if nat_lt k total then (if nat_le total (k + 6) then just (has_bit r (total - 1 - k)) else record { holds = true; fails = true })
+    else just false
 
 -- what an input may be in a row, where the first of so many constants have these truths
 abbrev pub may_of_input : List Bool → ℕ → ℕ → ℕ → May
@@ -71,5 +74,6 @@ Searched holds left old new false = (first_such left (λ bs. holds (old ++ bs)) 
 
 -- So it is behind the chosen truths and one more.
 abbrev pub SearchedWith : (List Bool → Bool) → Bool → ℕ → List Bool → List Bool → Bool → Type 0
-SearchedWith holds b left old new true = (rest : List Bool) × (first_such left (λ bs. holds (old ++ b ∷ bs)) ≡ Some rest) × (new ≡ old ++ b ∷ rest)
+SearchedWith holds b left old new true =
+    (rest : List Bool) × (first_such left (λ bs. holds (old ++ b ∷ bs)) ≡ Some rest) × (new ≡ old ++ b ∷ rest)
 SearchedWith holds b left old new false = (first_such left (λ bs. holds (old ++ b ∷ bs)) ≡ None) × (new ≡ old)

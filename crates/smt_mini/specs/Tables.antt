@@ -1,5 +1,6 @@
 -- What the tables of the program say, and for which states of a script they stand.
-use Rattle.std.specs.Prelude.{◌≡◌, ◌<◌, ◌≤◌, ℕ, Bool, true, false, codes, if◌then◌else◌, length, map, reverse, take, List, [], ◌∷◌, ◌++◌, Option, Some, None, is_some, slice_index_or}
+use Rattle.std.specs.Prelude.{◌≡◌, ◌<◌, ◌≤◌, ℕ, Bool, true, false, codes, if◌then◌else◌, length, map, reverse, take, List, [], ◌∷◌, ◌++◌}
+use Rattle.std.specs.Prelude.{Option, Some, None, is_some, slice_index_or}
 use Rattle.std.specs.Rc.{rc_str_bytes}
 use Rattle.law_texts.specs.Reading.{Expression}
 use Rattle.law_scripts.specs.ScriptValues.{TruthOf}
@@ -57,7 +58,12 @@ with_name t n gate = record t { names = t.names ++ (n, gate) ∷ [] }
 
 -- the table with one more constant, whose gate is an input
 abbrev pub with_constant : Table → List ℕ → Table
-with_constant t n = record t { gates = t.gates ++ Input (length t.constants) ∷ []; names = t.names ++ (n, Some (length t.gates)) ∷ []; constants = t.constants ++ n ∷ [] }
+with_constant t n =
+    record t {
+      gates = t.gates ++ Input (length t.constants) ∷ [];
+      names = t.names ++ (n, Some (length t.gates)) ∷ [];
+      constants = t.constants ++ n ∷ [];
+    }
 
 -- the table with the constructors and the selector of the datatype Option, which have no gates
 abbrev pub with_options : Table → Table
@@ -69,11 +75,25 @@ with_assertion t p = record t { assertions = t.assertions ++ p ∷ [] }
 
 -- how much there is
 abbrev pub mark_of : Table → Mark
-mark_of t = record { gates = length t.gates; names = length t.names; constants = length t.constants; assertions = length t.assertions; options = t.options }
+mark_of t =
+    record {
+      gates = length t.gates;
+      names = length t.names;
+      constants = length t.constants;
+      assertions = length t.assertions;
+      options = t.options;
+    }
 
 -- the table without what came behind a mark
 abbrev pub cut : Mark → Table → Table
-cut m t = record { gates = take m.gates t.gates; names = take m.names t.names; constants = take m.constants t.constants; assertions = take m.assertions t.assertions; options = m.options }
+cut m t =
+    record {
+      gates = take m.gates t.gates;
+      names = take m.names t.names;
+      constants = take m.constants t.constants;
+      assertions = take m.assertions t.assertions;
+      options = m.options;
+    }
 
 -- The mark was set in a table of which this one has all.
 pub record IsMarked (m : Mark) (t : Table) : Type 0 where
@@ -101,7 +121,8 @@ Agrees f at cs = (k : ℕ) → k < length cs → f (slice_index_or cs k []) ≡ 
 pub record HasValue (t : Table) (s : State) (e : Expression) (p : ℕ) : Type 0 where
   pub within : p < length t.gates
   pub known : knows s e ≡ true
-  pub value : (f : List ℕ → Bool) (at : ℕ → Bool) → Agrees f at t.constants → expression_value (by_name f) s e ≡ Some (TruthOf (gate_truth at t.gates p))
+  pub value : (f : List ℕ → Bool) (at : ℕ → Bool) → Agrees f at t.constants →
+      expression_value (by_name f) s e ≡ Some (TruthOf (gate_truth at t.gates p))
 
 -- So it is for each expression and its gate.
 abbrev pub HaveValues : Table → State → List Expression → List ℕ → Type 0

@@ -25,5 +25,7 @@ Turns old new e (Err error) = (m : Machine) → Stands old m → Refuses m e err
 
 -- So it is for a command that lies in the fragment.
 abbrev pub Replies : Mini → Mini → Command → Result Reply MiniError → Type 0
-Replies old new c (Ok reply) = (m : Machine) → Stands old m → is_within m.state c ≡ true → (next : Machine) × (then_replied m.shown c (obey c m.state) ≡ Some (plain_reply reply, next)) × Stands new next
+Replies old new c (Ok reply) =
+    (m : Machine) → Stands old m → is_within m.state c ≡ true →
+    (next : Machine) × (then_replied m.shown c (obey c m.state) ≡ Some (plain_reply reply, next)) × Stands new next
 Replies old new c (Err error) = (m : Machine) → Stands old m → is_within m.state c ≡ true → IsRefused error (obey c m.state)

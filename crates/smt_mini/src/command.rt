@@ -4,13 +4,11 @@ ghost use Rattle.std.specs.Rc.{rc_str_bytes};
 ghost use Rattle.law_scripts.specs.Script as script;
 ghost use Rattle.law_scripts.specs.Script.{Command as Stated};
 ghost use Rattle.law_verdicts.specs.Fragment as stated;
-ghost use Rattle.smt_sexpr.specs.View.{plain};
+ghost use Rattle.smt_sexpr.specs.View.{plain, plain_list};
 ghost use Rattle.smt_mini.specs.Commands.{plain_command, signature_of};
-ghost use Rattle.smt_mini.specs.Parts.{plain_list};
 
 use crate::option::are_options;
-use crate::parts::{both, first_apart, inside_of, name_in, number_in, sole};
-use smt_sexpr::SExpr;
+use smt_sexpr::{SExpr, both, first_apart, inside_of, name_in, number_in, sole};
 use smt_text::Text;
 
 /// A command (SMT-LIB 2.7, chapter 4, "Commands"), of those of which some lie in the fragment.
@@ -43,7 +41,8 @@ pub enum Command<'e> {
 }
 
 fn check_sat(operands: &[SExpr]) -> Option<Command<'_>>
-    ensures { option_map plain_command result ≡ stated.alone script.CheckSat (plain_list operands.now) }
+    ensures { option_map plain_command result
+        ≡ stated.alone script.CheckSat (plain_list operands.now) }
 {
     match first_apart(operands) {
         None => Some(Command::CheckSat),
@@ -52,7 +51,8 @@ fn check_sat(operands: &[SExpr]) -> Option<Command<'_>>
 }
 
 fn get_model(operands: &[SExpr]) -> Option<Command<'_>>
-    ensures { option_map plain_command result ≡ stated.alone script.GetModel (plain_list operands.now) }
+    ensures { option_map plain_command result
+        ≡ stated.alone script.GetModel (plain_list operands.now) }
 {
     match first_apart(operands) {
         None => Some(Command::GetModel),
@@ -61,7 +61,8 @@ fn get_model(operands: &[SExpr]) -> Option<Command<'_>>
 }
 
 fn reset(operands: &[SExpr]) -> Option<Command<'_>>
-    ensures { option_map plain_command result ≡ stated.alone script.Reset (plain_list operands.now) }
+    ensures { option_map plain_command result
+        ≡ stated.alone script.Reset (plain_list operands.now) }
 {
     match first_apart(operands) {
         None => Some(Command::Reset),
@@ -80,7 +81,8 @@ fn exit(operands: &[SExpr]) -> Option<Command<'_>>
 
 /// Whether the operands are the number 1 alone.
 fn is_one(operands: &[SExpr]) -> Option<()>
-    ensures { (c : Stated) → option_map (λ x. c) result ≡ stated.by_one c (plain_list operands.now) }
+    ensures { (c : Stated) →
+        option_map (λ x. c) result ≡ stated.by_one c (plain_list operands.now) }
 {
     if number_in(sole(operands)?)? == 1 {
         Some(())
@@ -90,7 +92,8 @@ fn is_one(operands: &[SExpr]) -> Option<()>
 }
 
 fn push(operands: &[SExpr]) -> Option<Command<'_>>
-    ensures { option_map plain_command result ≡ stated.by_one script.Push (plain_list operands.now) }
+    ensures { option_map plain_command result
+        ≡ stated.by_one script.Push (plain_list operands.now) }
 {
     is_one(operands)?;
     Some(Command::Push)
@@ -118,7 +121,8 @@ fn declaration(operands: &[SExpr]) -> Option<Command<'_>>
 
 /// The name and what stands behind the empty brackets of a definition.
 fn signature(operands: &[SExpr]) -> Option<(&Text, &[SExpr])>
-    ensures { option_map (λ p. (rc_str_bytes p.0.now, plain_list p.1.now)) result ≡ signature_of (plain_list operands.now) }
+    ensures { option_map (λ p. (rc_str_bytes p.0.now, plain_list p.1.now)) result
+        ≡ signature_of (plain_list operands.now) }
 {
     let (name, rest) = first_apart(operands)?;
     let name = name_in(name)?;
@@ -145,7 +149,8 @@ fn logic(operands: &[SExpr]) -> Option<Command<'_>>
 
 /// The option of a name that begins with a colon.
 fn option_named<'e>(option: &'e Text, value: &'e SExpr) -> Option<Command<'e>>
-    ensures { option_map plain_command result ≡ stated.option_named (rc_str_bytes option.now) (plain value.now) }
+    ensures { option_map plain_command result
+        ≡ stated.option_named (rc_str_bytes option.now) (plain value.now) }
 {
     match option.as_str().as_bytes().split_first() {
         Some((b':', name)) => Some(Command::SetOption(name, value)),
@@ -172,7 +177,8 @@ fn options(operands: &[SExpr]) -> Option<Command<'_>>
 
 /// The command of a keyword with these operands.
 fn command_with<'e>(keyword: &str, operands: &'e [SExpr]) -> Option<Command<'e>>
-    ensures { option_map plain_command result ≡ stated.command_with keyword.now (plain_list operands.now) }
+    ensures { option_map plain_command result
+        ≡ stated.command_with keyword.now (plain_list operands.now) }
 {
     match keyword {
         "assert" => assertion(operands),

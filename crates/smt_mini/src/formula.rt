@@ -8,17 +8,15 @@ ghost use Rattle.law_verdicts.specs.Fragment as fragment;
 ghost use Rattle.law_verdicts.specs.Fragment.{is_truth_name};
 ghost use Rattle.law_texts.specs.Reading.{Leaf};
 ghost use Rattle.std.specs.Rc.{rc_str_bytes};
-ghost use Rattle.smt_sexpr.specs.View.{plain};
-ghost use Rattle.smt_mini.specs.Parts.{applied, plain_list};
-ghost use Rattle.smt_mini.specs.Building.{Built, BuiltAll};
+ghost use Rattle.smt_sexpr.specs.View.{plain, plain_list};
+ghost use Rattle.smt_mini.specs.Building.{Built, BuiltAll, applied};
 ghost use Rattle.smt_mini.specs.Tables.{Fits, table_of};
 
 use crate::gate::{Gate, gate_of};
 use crate::names::find;
-use crate::parts::name_in;
 use crate::tables::Tables;
 use crate::words::{is_built_in, is_name};
-use smt_sexpr::SExpr;
+use smt_sexpr::{SExpr, name_in};
 use smt_text::Text;
 use std::alloc::{AllocError, Global};
 
@@ -55,7 +53,8 @@ fn is_truth_name(tables: &Tables, name: &str) -> bool
 /// Whether an expression is a formula over names of sort Bool.
 #[cycle(formula)]
 pub fn is_formula(tables: &Tables, expression: &SExpr) -> bool
-    ensures { (s : State) → Fits (table_of tables.now) s → result ≡ fragment.is_formula (is_truth_name s) (plain expression.now) }
+    ensures { (s : State) → Fits (table_of tables.now) s →
+        result ≡ fragment.is_formula (is_truth_name s) (plain expression.now) }
 {
     let items = match expression {
         SExpr::Symbol(name) => return is_truth_name(tables, name.as_str()),
@@ -75,7 +74,8 @@ pub fn is_formula(tables: &Tables, expression: &SExpr) -> bool
 /// Whether each expression is a formula.
 #[cycle(formula)]
 fn are_formulas(tables: &Tables, operands: &[SExpr]) -> bool
-    ensures { (s : State) → Fits (table_of tables.now) s → result ≡ fragment.are_formulas (is_truth_name s) (plain_list operands.now) }
+    ensures { (s : State) → Fits (table_of tables.now) s →
+        result ≡ fragment.are_formulas (is_truth_name s) (plain_list operands.now) }
 {
     for operand in operands {
         if !is_formula(tables, operand) {
@@ -87,7 +87,8 @@ fn are_formulas(tables: &Tables, operands: &[SExpr]) -> bool
 
 /// The gate of a name of sort Bool, or nothing where nothing has the name.
 fn name_gate(tables: &mut Tables, name: &str) -> Result<Option<usize>, AllocError>
-    ensures { (s : State) → Fits (table_of tables.old) s → is_truth_name s name.now ≡ true → IfOk result (Built (table_of tables.old) (table_of tables.new) s (Leaf (Name name.now))) }
+    ensures { (s : State) → Fits (table_of tables.old) s → is_truth_name s name.now ≡ true →
+        IfOk result (Built (table_of tables.old) (table_of tables.new) s (Leaf (Name name.now))) }
 {
     match name {
         "true" => Ok(Some(tables.add_gate(Gate::Truth(true))?)),
@@ -103,7 +104,9 @@ pub fn build(
     tables: &mut Tables,
     expression: &SExpr,
 ) -> Result<Option<usize>, AllocError>
-    ensures { (s : State) → Fits (table_of tables.old) s → fragment.is_formula (is_truth_name s) (plain expression.now) ≡ true → IfOk result (Built (table_of tables.old) (table_of tables.new) s (plain expression.now)) }
+    ensures { (s : State) → Fits (table_of tables.old) s →
+        fragment.is_formula (is_truth_name s) (plain expression.now) ≡ true →
+        IfOk result (Built (table_of tables.old) (table_of tables.new) s (plain expression.now)) }
 {
     let items = match expression {
         SExpr::Symbol(name) => return name_gate(tables, name.as_str()),
@@ -127,7 +130,11 @@ fn build_connected(
     connective: &Text,
     operands: &[SExpr],
 ) -> Result<Option<usize>, AllocError>
-    ensures { (s : State) → Fits (table_of tables.old) s → fragment.is_formula (is_truth_name s) (applied (rc_str_bytes connective.now) operands.now) ≡ true → IfOk result (Built (table_of tables.old) (table_of tables.new) s (applied (rc_str_bytes connective.now) operands.now)) }
+    ensures { (s : State) → Fits (table_of tables.old) s →
+        fragment.is_formula (is_truth_name s) (applied (rc_str_bytes connective.now) operands.now) ≡
+        true →
+        IfOk result (Built (table_of tables.old) (table_of tables.new) s
+        (applied (rc_str_bytes connective.now) operands.now)) }
 {
     let Some(parts) = build_all(alloc, tables, operands)? else {
         return Ok(None);
@@ -143,7 +150,10 @@ fn build_all(
     tables: &mut Tables,
     operands: &[SExpr],
 ) -> Result<Option<Vec<usize>>, AllocError>
-    ensures { (s : State) → Fits (table_of tables.old) s → fragment.are_formulas (is_truth_name s) (plain_list operands.now) ≡ true → IfOk result (BuiltAll (table_of tables.old) (table_of tables.new) s (map plain operands.now)) }
+    ensures { (s : State) → Fits (table_of tables.old) s →
+        fragment.are_formulas (is_truth_name s) (plain_list operands.now) ≡ true →
+        IfOk result
+        (BuiltAll (table_of tables.old) (table_of tables.new) s (map plain operands.now)) }
 {
     let mut parts = Vec::new(alloc);
     for operand in operands {

@@ -24,7 +24,9 @@ pub enum Gate {
 
 /// The gate of a connective of two parts.
 fn gate_of_two(connective: &str, first: usize, second: usize) -> Gate
-    ensures { (at : ℕ → Bool) (done : List Bool) → gate_value at done result ≡ connected connective.now (value_at done first ∷ value_at done second ∷ []) }
+    ensures { (at : ℕ → Bool) (done : List Bool) →
+        gate_value at done result
+        ≡ connected connective.now (value_at done first ∷ value_at done second ∷ []) }
 {
     match connective {
         "and" => Gate::And(first, second),
@@ -35,7 +37,8 @@ fn gate_of_two(connective: &str, first: usize, second: usize) -> Gate
 
 /// The gate of a connective.
 pub fn gate_of(connective: &str, parts: &[usize]) -> Gate
-    ensures { (at : ℕ → Bool) (done : List Bool) → gate_value at done result ≡ connected connective.now (map (value_at done) parts.now) }
+    ensures { (at : ℕ → Bool) (done : List Bool) →
+        gate_value at done result ≡ connected connective.now (map (value_at done) parts.now) }
 {
     match parts {
         [part] => Gate::Not(*part),

@@ -46,7 +46,10 @@ fn is_taken(tables: &Tables, name: &str) -> bool
 
 /// Whether a name of the datatype Option can't be declared.
 fn are_taken(tables: &Tables) -> bool
-    ensures { (s : State) → Fits (table_of tables.now) s → result ≡ (script.is_taken s (codes "none") || (script.is_taken s (codes "some") || script.is_taken s (codes "val"))) }
+    ensures { (s : State) → Fits (table_of tables.now) s →
+        result
+        ≡ (script.is_taken s (codes "none")
+        || (script.is_taken s (codes "some") || script.is_taken s (codes "val"))) }
 {
     is_taken(tables, "none") || is_taken(tables, "some") || is_taken(tables, "val")
 }
@@ -75,7 +78,8 @@ impl Levels {
 
     /// Declares a constant of sort Bool.
     pub fn declare(&mut self, name: &Text) -> Result<(), MiniError>
-        ensures { Obeys self.old self.new (script.DeclareConst (rc_str_bytes name.now) bool_sort) result }
+        ensures { Obeys self.old self.new (script.DeclareConst (rc_str_bytes name.now) bool_sort)
+            result }
     {
         if is_taken(&self.tables, name.as_str()) {
             return Err(MiniError::NotScript);
@@ -86,7 +90,8 @@ impl Levels {
 
     /// Defines a name of sort Bool as a formula.
     pub fn define(&mut self, alloc: Global, name: &Text, body: &SExpr) -> Result<(), MiniError>
-        ensures { Obeys self.old self.new (script.DefineFun (rc_str_bytes name.now) bool_sort (plain body.now)) result }
+        ensures { Obeys self.old self.new
+            (script.DefineFun (rc_str_bytes name.now) bool_sort (plain body.now)) result }
     {
         if is_taken(&self.tables, name.as_str()) {
             return Err(MiniError::NotScript);
@@ -133,7 +138,8 @@ impl Levels {
 
     /// Obeys a command to which nothing is replied. Nothing is done for any other.
     pub fn obey(&mut self, alloc: Global, command: &Command) -> Result<(), MiniError>
-        ensures { is_silent (plain_command command.now) ≡ true → Obeys self.old self.new (plain_command command.now) result }
+        ensures { is_silent (plain_command command.now) ≡ true →
+            Obeys self.old self.new (plain_command command.now) result }
     {
         match command {
             Command::DeclareOption => self.declare_options(alloc),

@@ -14,7 +14,6 @@ mod mini;
 mod model;
 mod names;
 mod option;
-mod parts;
 mod reply;
 mod rows;
 mod search;

@@ -71,8 +71,12 @@ impl Mini {
     /// machine takes no turn: the commands with this one are no script, or it stands behind `exit`. `Memory`, where there is none
     /// for the command. Behind each error the solver is spent.
     pub fn feed(&mut self, command: &SExpr) -> Result<Reply, MiniError>
-        ensures replies { (m : Machine) → Stands self.old m → IfOk result (λ reply. (next : Machine) × (turn m (plain command.now) ≡ Some (plain_reply reply, next)) × Stands self.new next) }
-        ensures refuses { (m : Machine) → Stands self.old m → IfErr result (λ e. Refuses m (plain command.now) e) }
+        ensures replies { (m : Machine) → Stands self.old m →
+            IfOk result (λ reply.
+            (next : Machine) × (turn m (plain command.now) ≡ Some (plain_reply reply, next))
+            × Stands self.new next) }
+        ensures refuses { (m : Machine) → Stands self.old m →
+            IfErr result (λ e. Refuses m (plain command.now) e) }
         ensures spent { IsSpent self.old → (result ≡ Err MiniError.Spent) × IsSpent self.new }
         ensures fails { OnErr result (IsSpent self.new) }
     {
@@ -123,7 +127,8 @@ impl Mini {
     /// The reply to a command behind one that was outside.
     fn obey_blindly(&mut self, command: &Command) -> Result<Reply, MiniError>
         requires { self.old.phase ≡ Phase.Outside }
-        ensures { (e : Expression) → command_of e ≡ Some (plain_command command.now) → Turns self.old self.new e result }
+        ensures { (e : Expression) → command_of e ≡ Some (plain_command command.now) →
+            Turns self.old self.new e result }
     {
         match command {
             Command::CheckSat => line(self.alloc, "unknown"),
@@ -173,7 +178,9 @@ impl Mini {
     /// The answer to a check.
     fn check(&mut self) -> Result<Reply, MiniError>
         requires { (self.old.phase ≡ Phase.Inside) × (self.old.shown ≡ None) }
-        ensures answered { (s : State) → StandFor self.old.levels s → s.ended ≡ false → IfOk result (λ reply. (plain_reply reply ≡ Line (verdict s)) × Stands self.new (behind_check s)) }
+        ensures answered { (s : State) → StandFor self.old.levels s → s.ended ≡ false →
+            IfOk result
+            (λ reply. (plain_reply reply ≡ Line (verdict s)) × Stands self.new (behind_check s)) }
         ensures refusal { IsOkUnless result MiniError.Memory }
     {
         if self.levels.tables.constants.len() > MOST_CONSTANTS {
@@ -185,7 +192,8 @@ impl Mini {
 
     /// The truths of the constants in the first model.
     fn search(&self) -> Result<Option<Vec<bool>>, MiniError>
-        ensures found { (s : State) → StandFor self.now.levels s → IfOk result (λ found. option_map (λ truths. truths.items) found ≡ first_model s) }
+        ensures found { (s : State) → StandFor self.now.levels s →
+            IfOk result (λ found. option_map (λ truths. truths.items) found ≡ first_model s) }
         ensures refusal { IsOkUnless result MiniError.Memory }
     {
         let circuit = Circuit {
@@ -198,7 +206,8 @@ impl Mini {
 
     /// The model of a check directly before, if it was answered `sat`.
     fn model(&self, shown: Option<Vec<bool>>) -> Result<Reply, MiniError>
-        ensures answered { (s : State) (was : Bool) → StandFor self.now.levels s → IsShown shown was s → IfOk result (λ reply. plain_reply reply ≡ model_or_none was s) }
+        ensures answered { (s : State) (was : Bool) → StandFor self.now.levels s →
+            IsShown shown was s → IfOk result (λ reply. plain_reply reply ≡ model_or_none was s) }
         ensures refusal { IsOkUnless result MiniError.Memory }
     {
         match shown {

@@ -4,12 +4,12 @@ ghost use Rattle.law_texts.specs.Reading.{expressions};
 ghost use Rattle.law_scripts.specs.Script.{group, name, operands};
 ghost use Rattle.law_scripts.specs.Sorts.{same_sort, same_sorts};
 ghost use Rattle.law_scripts.specs.Written.{option_command};
-ghost use Rattle.smt_sexpr.specs.View.{plain};
-ghost use Rattle.smt_mini.specs.Parts.{plain_list};
-ghost use Rattle.smt_mini.specs.OptionLine.{body, constructors, parameters, selector, some_constructor};
+ghost use Rattle.smt_sexpr.specs.View.{plain, plain_list};
+ghost use Rattle.smt_mini.specs.OptionLine.{body, constructors, parameters, selector};
+ghost use Rattle.smt_mini.specs.OptionLine.{some_constructor};
 
-use crate::parts::{both, first_apart, inside_of, is_named, pair_in, sole_in};
-use smt_sexpr::SExpr;
+use crate::within::is_named;
+use smt_sexpr::{SExpr, both, first_apart, inside_of, pair_in, sole_in};
 
 /// Whether the expression is one name in brackets.
 fn is_alone(expression: &SExpr, word: &str) -> bool
@@ -64,7 +64,8 @@ fn are_parameters(items: &[SExpr]) -> bool
 
 /// Whether the expressions are `par (X) ((none) (some (val X)))`.
 fn are_body(items: &[SExpr]) -> bool
-    ensures { result ≡ same_sorts (plain_list items.now) (expressions (name (codes "par") ∷ parameters)) }
+    ensures { result
+        ≡ same_sorts (plain_list items.now) (expressions (name (codes "par") ∷ parameters)) }
 {
     match first_apart(items) {
         Some((par, rest)) => is_named(par, "par") && are_parameters(rest),

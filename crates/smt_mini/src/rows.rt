@@ -1,8 +1,9 @@
 // What gates may be in 64 rows of truths side by side.
 ghost use Rattle.std.specs.Prelude.{◌≡◌, ◌<◌, ◌^◌, ℕ, map, min, nat_lt};
-ghost use Rattle.law_verdicts.specs.Rows as rows;
-ghost use Rattle.law_verdicts.specs.Rows.{has_bit, row};
-ghost use Rattle.smt_mini.specs.Search.{in_row, may_free, may_of_gate, may_of_input, may_place, plain_rows};
+ghost use Rattle.law_verdicts.specs.TruthRows as rows;
+ghost use Rattle.law_verdicts.specs.TruthRows.{has_bit, row};
+ghost use Rattle.smt_mini.specs.Search.{in_row, may_free, may_of_gate, may_of_input, may_place};
+ghost use Rattle.smt_mini.specs.Search.{plain_rows};
 
 use crate::gate::Gate;
 
@@ -47,7 +48,8 @@ fn rows_not(a: Rows) -> Rows
 
 /// In each row what the conjunction may be.
 fn rows_and(a: Rows, b: Rows) -> Rows
-    ensures { (r : ℕ) → row r (plain_rows result) ≡ rows.may_and (row r (plain_rows a)) (row r (plain_rows b)) }
+    ensures { (r : ℕ) →
+        row r (plain_rows result) ≡ rows.may_and (row r (plain_rows a)) (row r (plain_rows b)) }
 {
     Rows {
         holds: a.holds & b.holds,
@@ -57,7 +59,8 @@ fn rows_and(a: Rows, b: Rows) -> Rows
 
 /// In each row what the disjunction may be.
 fn rows_or(a: Rows, b: Rows) -> Rows
-    ensures { (r : ℕ) → row r (plain_rows result) ≡ rows.may_or (row r (plain_rows a)) (row r (plain_rows b)) }
+    ensures { (r : ℕ) →
+        row r (plain_rows result) ≡ rows.may_or (row r (plain_rows a)) (row r (plain_rows b)) }
 {
     Rows {
         holds: a.holds | b.holds,
@@ -67,7 +70,8 @@ fn rows_or(a: Rows, b: Rows) -> Rows
 
 /// In each row what the equality may be.
 fn rows_equal(a: Rows, b: Rows) -> Rows
-    ensures { (r : ℕ) → row r (plain_rows result) ≡ rows.may_equal (row r (plain_rows a)) (row r (plain_rows b)) }
+    ensures { (r : ℕ) →
+        row r (plain_rows result) ≡ rows.may_equal (row r (plain_rows a)) (row r (plain_rows b)) }
 {
     Rows {
         holds: (a.holds & b.holds) | (a.fails & b.fails),
@@ -77,7 +81,9 @@ fn rows_equal(a: Rows, b: Rows) -> Rows
 
 /// In each row what `ite` may be.
 fn rows_choose(a: Rows, b: Rows, c: Rows) -> Rows
-    ensures { (r : ℕ) → row r (plain_rows result) ≡ rows.may_choose (row r (plain_rows a)) (row r (plain_rows b)) (row r (plain_rows c)) }
+    ensures { (r : ℕ) →
+        row r (plain_rows result)
+        ≡ rows.may_choose (row r (plain_rows a)) (row r (plain_rows b)) (row r (plain_rows c)) }
 {
     Rows {
         holds: (a.holds & b.holds) | (a.fails & c.holds),
@@ -161,7 +167,8 @@ fn input(chosen: &[bool], total: usize, place: usize) -> Rows
 
 /// What an earlier gate may be.
 pub fn earlier(done: &[Rows], place: usize) -> Rows
-    ensures { (r : ℕ) → r < 64 → row r (plain_rows result) ≡ may_place (map (in_row r) done.now) place }
+    ensures { (r : ℕ) → r < 64 →
+        row r (plain_rows result) ≡ may_place (map (in_row r) done.now) place }
 {
     match done.get(place) {
         Some(rows) => *rows,
@@ -171,7 +178,9 @@ pub fn earlier(done: &[Rows], place: usize) -> Rows
 
 /// What a gate may be, by what the inputs and the earlier gates may be.
 pub fn rows_of_gate(chosen: &[bool], total: usize, done: &[Rows], gate: Gate) -> Rows
-    ensures { (r : ℕ) → r < 64 → row r (plain_rows result) ≡ may_of_gate (may_of_input chosen.now total r) (map (in_row r) done.now) gate }
+    ensures { (r : ℕ) → r < 64 →
+        row r (plain_rows result)
+        ≡ may_of_gate (may_of_input chosen.now total r) (map (in_row r) done.now) gate }
 {
     match gate {
         Gate::Input(place) => input(chosen, total, place),

@@ -1,9 +1,11 @@
 // The search for the first model: the truths of the last six constants side by side, and those of the others one after the other.
-ghost use Rattle.std.specs.Prelude.{◌≡◌, ◌<◌, ◌≤◌, ◌+◌, ◌++◌, ◌&&◌, ℕ, [], true, false, IfOk, OnOk, length, map, option_map};
+ghost use Rattle.std.specs.Prelude.{◌≡◌, ◌<◌, ◌≤◌, ◌+◌, ◌++◌, ◌&&◌, ℕ, [], true, false, IfOk, OnOk};
+ghost use Rattle.std.specs.Prelude.{length, map, option_map};
 ghost use Rattle.std.specs.List.{list_all};
 ghost use Rattle.law_verdicts.specs.FirstModel.{first_such};
-ghost use Rattle.law_verdicts.specs.Rows.{has_bit, row_truths};
-ghost use Rattle.smt_mini.specs.Search.{Searched, SearchedWith, all_hold, in_row, is_alive, lanes_of, may_of_input, may_place, mays_of};
+ghost use Rattle.law_verdicts.specs.TruthRows.{has_bit, row_truths};
+ghost use Rattle.smt_mini.specs.Search.{Searched, SearchedWith, all_hold, in_row, is_alive};
+ghost use Rattle.smt_mini.specs.Search.{lanes_of, may_of_input, may_place, mays_of};
 
 use crate::gate::Gate;
 use crate::rows::{LANES, Rows, earlier, rows_of, rows_of_gate};
@@ -22,7 +24,10 @@ pub struct Circuit<'c> {
 
 /// What each gate may be.
 fn rows_of_gates(alloc: Global, circuit: &Circuit, chosen: &[bool]) -> Result<Vec<Rows>, AllocError>
-    ensures { IfOk result (λ v. (r : ℕ) → r < 64 → map (in_row r) v.items ≡ mays_of (may_of_input chosen.now circuit.now.total r) [] circuit.now.gates.now) }
+    ensures { IfOk result (λ v.
+        (r : ℕ) → r < 64 →
+        map (in_row r) v.items
+        ≡ mays_of (may_of_input chosen.now circuit.now.total r) [] circuit.now.gates.now) }
 {
     let mut done = Vec::new(alloc);
     for gate in circuit.gates {
@@ -34,7 +39,10 @@ fn rows_of_gates(alloc: Global, circuit: &Circuit, chosen: &[bool]) -> Result<Ve
 
 /// Those of some rows in which each of these gates may be true.
 fn rows_left(done: &[Rows], assertions: &[usize], rows: u64) -> u64
-    ensures { (r : ℕ) → r < 64 → has_bit result r ≡ (has_bit rows r && list_all (λ p. (may_place (map (in_row r) done.now) p).holds) assertions.now) }
+    ensures { (r : ℕ) → r < 64 →
+        has_bit result r
+        ≡ (has_bit rows r
+        && list_all (λ p. (may_place (map (in_row r) done.now) p).holds) assertions.now) }
 {
     let mut left = rows;
     for place in assertions {
@@ -45,7 +53,11 @@ fn rows_left(done: &[Rows], assertions: &[usize], rows: u64) -> u64
 
 /// The rows in which each assertion may be true.
 fn alive_rows(alloc: Global, circuit: &Circuit, chosen: &[bool]) -> Result<u64, AllocError>
-    ensures { IfOk result (λ alive. (r : ℕ) → r < 64 → has_bit alive r ≡ is_alive circuit.now.gates.now circuit.now.assertions.now circuit.now.total chosen.now r) }
+    ensures { IfOk result (λ alive.
+        (r : ℕ) → r < 64 →
+        has_bit alive r
+        ≡ is_alive circuit.now.gates.now circuit.now.assertions.now circuit.now.total chosen.now
+        r) }
 {
     let done = rows_of_gates(alloc, circuit, chosen)?;
     Ok(rows_left(done.as_slice(), circuit.assertions, rows_of(circuit.total)))
@@ -85,7 +97,8 @@ fn search_with(
     left: usize,
 ) -> Result<bool, AllocError>
     requires { length chosen.old.items + left + 1 + lanes_of circuit.now.total ≡ circuit.now.total }
-    ensures { IfOk result (SearchedWith (all_hold circuit.now.gates.now circuit.now.assertions.now) truth (left + lanes_of circuit.now.total) chosen.old.items chosen.new.items) }
+    ensures { IfOk result (SearchedWith (all_hold circuit.now.gates.now circuit.now.assertions.now)
+        truth (left + lanes_of circuit.now.total) chosen.old.items chosen.new.items) }
 {
     chosen.push(truth)?;
     if search(alloc, circuit, chosen, left)? {
@@ -105,7 +118,8 @@ fn search(
     left: usize,
 ) -> Result<bool, AllocError>
     requires { length chosen.old.items + left + lanes_of circuit.now.total ≡ circuit.now.total }
-    ensures { IfOk result (Searched (all_hold circuit.now.gates.now circuit.now.assertions.now) (left + lanes_of circuit.now.total) chosen.old.items chosen.new.items) }
+    ensures { IfOk result (Searched (all_hold circuit.now.gates.now circuit.now.assertions.now)
+        (left + lanes_of circuit.now.total) chosen.old.items chosen.new.items) }
 {
     let alive = alive_rows(alloc, circuit, chosen.as_slice())?;
     if alive == 0 {
@@ -124,7 +138,10 @@ fn search(
 
 /// The truths of the constants in the first model, in order.
 pub fn first_model(alloc: Global, circuit: &Circuit) -> Result<Option<Vec<bool>>, AllocError>
-    ensures { IfOk result (λ found. option_map (λ truths. truths.items) found ≡ first_such circuit.now.total (all_hold circuit.now.gates.now circuit.now.assertions.now)) }
+    ensures { IfOk result (λ found.
+        option_map (λ truths. truths.items) found
+        ≡ first_such circuit.now.total
+        (all_hold circuit.now.gates.now circuit.now.assertions.now)) }
 {
     let mut chosen = Vec::new(alloc);
     let left = circuit.total.saturating_sub(LANES);

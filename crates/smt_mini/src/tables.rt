@@ -1,7 +1,9 @@
 // What a script declares and asserts, as gates.
 ghost use Rattle.std.specs.Prelude.{◌≡◌, ◌∷◌, [], length, IfOk, OnOk};
 ghost use Rattle.std.specs.Rc.{rc_str_bytes};
-ghost use Rattle.smt_mini.specs.Tables.{cut, empty_table, gained, mark_of, table_of, with_assertion, with_constant, with_name, with_options};
+ghost use Rattle.smt_mini.specs.Tables.{cut, empty_table, gained, mark_of, table_of};
+ghost use Rattle.smt_mini.specs.Tables.{with_assertion, with_constant, with_name};
+ghost use Rattle.smt_mini.specs.Tables.{with_options};
 
 use crate::gate::Gate;
 use crate::names::Name;
@@ -54,7 +56,9 @@ impl Tables {
 
     /// A new gate, and its place.
     pub fn add_gate(&mut self, gate: Gate) -> Result<usize, AllocError>
-        ensures { IfOk result (λ place. (place ≡ length (table_of self.old).gates) × (table_of self.new ≡ gained (table_of self.old) (gate ∷ []))) }
+        ensures { IfOk result (λ place.
+            (place ≡ length (table_of self.old).gates)
+            × (table_of self.new ≡ gained (table_of self.old) (gate ∷ []))) }
     {
         let place = self.gates.len();
         self.gates.push(gate)?;
@@ -63,7 +67,8 @@ impl Tables {
 
     /// A new name with its gate, if it has one.
     pub fn add_name(&mut self, name: &Text, gate: Option<usize>) -> Result<(), AllocError>
-        ensures { OnOk result (table_of self.new ≡ with_name (table_of self.old) (rc_str_bytes name.now) gate) }
+        ensures { OnOk result
+            (table_of self.new ≡ with_name (table_of self.old) (rc_str_bytes name.now) gate) }
     {
         self.names.push(Name {
             text: name.clone()?,
@@ -74,7 +79,8 @@ impl Tables {
 
     /// A new constant, with its input.
     pub fn add_constant(&mut self, name: &Text) -> Result<(), AllocError>
-        ensures { OnOk result (table_of self.new ≡ with_constant (table_of self.old) (rc_str_bytes name.now)) }
+        ensures { OnOk result
+            (table_of self.new ≡ with_constant (table_of self.old) (rc_str_bytes name.now)) }
     {
         let input = self.constants.len();
         let place = self.add_gate(Gate::Input(input))?;

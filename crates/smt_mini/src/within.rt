@@ -2,19 +2,28 @@
 #![tactic(auto, using(smt_sexpr::specs::View::views))]
 
 ghost use Rattle.std.specs.Prelude.{◌≡◌, ◌&&◌};
-ghost use Rattle.law_scripts.specs.Script.{State, is_attribute_value, is_simple_symbol};
+ghost use Rattle.law_scripts.specs.Script.{State, is_attribute_value, is_simple_symbol, name};
+ghost use Rattle.law_scripts.specs.Sorts.{same_sort};
 ghost use Rattle.law_verdicts.specs.Fragment as fragment;
-ghost use Rattle.smt_sexpr.specs.View.{plain};
+ghost use Rattle.smt_sexpr.specs.View.{plain, plain_list};
 ghost use Rattle.smt_mini.specs.Commands.{plain_command};
-ghost use Rattle.smt_mini.specs.Parts.{plain_list};
 ghost use Rattle.smt_mini.specs.Tables.{Fits, table_of};
 
 use crate::command::Command;
 use crate::formula::is_formula;
-use crate::parts::{is_named, name_in};
 use crate::tables::Tables;
 use crate::words::{is_name, is_option_name, is_simple_symbol};
-use smt_sexpr::SExpr;
+use smt_sexpr::{SExpr, name_in};
+
+/// Whether the expression is this name.
+pub fn is_named(expression: &SExpr, word: &str) -> bool
+    ensures { result ≡ same_sort (plain expression.now) (name word.now) }
+{
+    match name_in(expression) {
+        Some(name) => name.as_str() == word,
+        None => false,
+    }
+}
 
 /// Whether every name in an expression is one that a script may have.
 #[cycle(names)]
@@ -60,7 +69,8 @@ pub fn is_option(option: &[u8], value: &SExpr) -> bool
 
 /// Whether a command lies in the fragment where these tables stand.
 pub fn is_within(tables: &Tables, command: &Command) -> bool
-    ensures { (s : State) → Fits (table_of tables.now) s → result ≡ fragment.is_within s (plain_command command.now) }
+    ensures { (s : State) → Fits (table_of tables.now) s →
+        result ≡ fragment.is_within s (plain_command command.now) }
 {
     match command {
         Command::DeclareConst(name, sort) => is_name(name.as_str()) && is_named(sort, "Bool"),

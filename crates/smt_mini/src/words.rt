@@ -1,8 +1,10 @@
 // Names that a script may have, and those that it can't declare.
 ghost use Rattle.std.specs.Prelude.{◌≡◌, ◌++◌, ◌==◌, ◌||◌, codes, map};
 ghost use Rattle.std.specs.List.{list_all};
-ghost use Rattle.law_texts.specs.Lexicon.{is_plain_byte, is_plain_symbol, is_symbol, is_symbol_byte};
-ghost use Rattle.law_scripts.specs.Script.{built_in_names, is_in, is_reserved, is_simple_symbol, reserved_words};
+ghost use Rattle.law_texts.specs.Lexicon.{is_plain_byte, is_plain_symbol, is_symbol};
+ghost use Rattle.law_texts.specs.Lexicon.{is_symbol_byte};
+ghost use Rattle.law_scripts.specs.Script.{built_in_names, is_in, is_reserved, is_simple_symbol};
+ghost use Rattle.law_scripts.specs.Script.{reserved_words};
 ghost use Rattle.law_scripts.specs.Written.{is_name};
 
 /// The names of the theories, which no script declares.

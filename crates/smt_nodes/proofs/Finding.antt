@@ -6,7 +6,7 @@ use Rattle.std.proofs.lemmas.List.{length-map}
 use Rattle.std.specs.Cmp.{unsigned_Decides}
 use Rattle.std.specs.declared.alloc.Global.{Global}
 use Rattle.std.specs.Prelude.{◌↔◌, IfSome, nat_eq, Option, Some, None, option_and_then, option_map, slice_get}
-use Rattle.law_terms.specs.Plain.{PlainType, OptionType, RecordType, SetType, AttributeTypes, PlainLiteral, PlainOp, UufOp, PlainTerm, Application, NoneTerm, LiteralTerm, RecordTerm, SetTerm, SomeTerm, VariableTerm, PlainTerms, no_terms, one_term, PlainFields, terms, list_of_terms}
+use Rattle.law_terms.specs.Plain.{PlainType, OptionType, RecordType, SetType, AttributeTypes, PlainLiteral, PlainOp, UufOp, PlainTerm, Application, NoneTerm, LiteralTerm, RecordTerm, SetTerm, SomeTerm, VariableTerm, PlainTerms, PlainFields, terms, list_of_terms}
 use Rattle.law_terms.specs.Types.{literal_type, type_of}
 use Rattle.law_terms.specs.ValueOrder.{ascends, text_cmp}
 use Rattle.law_terms.proofs.TermTotal.{types_decided}
@@ -29,19 +29,15 @@ use Rattle.smt_nodes.proofs.RecordParts.{Listing, attributes_round, fields_round
 use Rattle.smt_nodes.specs.Kinds.{is_option_of_at, is_type_of_at}
 use Rattle.smt_nodes.specs.View.{place_of, places_of}
 use Rattle.smt_nodes.specs.declared.id.NodeId.{NodeId}
+use Rattle.law_terms.proofs.Listed.{listed_again}
 
 -- ---- a meaning is determined by its label and its parts
--- lists of terms, there and back
-terms_round : (ts : PlainTerms) → terms (list_of_terms ts) ≡ ts
-terms_round no_terms = refl
-terms_round (one_term t ts) = ap (one_term t) (terms_round ts)
-
 -- a term that terms make, which are those of a list
 made_of : (f : List PlainTerm → PlainTerm) (ts : PlainTerms) (v : PlainTerm) → option_map f (terms_in (map TermMeaning (list_of_terms ts))) ≡ Some v → f (list_of_terms ts) ≡ v
 made_of f ts v h = some_same (f (list_of_terms ts)) v (sym (ap (option_map f) (are_terms_in (list_of_terms ts))) ∙ h)
 
 applied_again : (o : PlainOp) (ts : PlainTerms) (t : PlainType) (v : PlainTerm) → option_map (λ us. Application o (terms us) t) (terms_in (map TermMeaning (list_of_terms ts))) ≡ Some v → Application o ts t ≡ v
-applied_again o ts t v h = ap (λ us. Application o us t) (sym (terms_round ts)) ∙ made_of (λ us. Application o (terms us) t) ts v h
+applied_again o ts t v h = ap (λ us. Application o us t) (sym (listed_again ts)) ∙ made_of (λ us. Application o (terms us) t) ts v h
 
 record_again : (x : PlainFields) (v : PlainTerm) → only_if (ascends text_cmp (field_names x)) (option_map RecordTerm (fields_in (field_names x) (field_terms x))) ≡ Some v → RecordTerm x ≡ v
 record_again x v h =
@@ -53,7 +49,7 @@ set_again t ts v h =
     let (us, e, d) = then_back _ (terms_in (map TermMeaning (list_of_terms ts))) v h in
     let (b, k) = test_back _ (SetTerm t (terms us)) v d in
     let same : list_of_terms ts ≡ us = some_same (list_of_terms ts) us (sym (are_terms_in (list_of_terms ts)) ∙ e) in
-    ap (SetTerm t) (sym (terms_round ts) ∙ ap terms same) ∙ k
+    ap (SetTerm t) (sym (listed_again ts) ∙ ap terms same) ∙ k
 
 term_again : (u v : PlainTerm) → term_made (term_label u) (type_of u) (term_parts u) ≡ Some v → u ≡ v
 term_again (Application (UufOp f) ts t) v h = applied_again (UufOp f) ts t v h

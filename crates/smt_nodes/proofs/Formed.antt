@@ -16,7 +16,7 @@ use Rattle.law_terms.proofs.Growth.{Graph, by_nodes, empty, grown}
 use Rattle.law_terms.proofs.Places.{found_split, map_back, meanings_grow, only_back, some_same, then_back}
 use Rattle.law_terms.proofs.Whole.{whole}
 use Rattle.smt_term.proofs.FormedTerms.{IsFormedBoth, formed_literal}
-use Rattle.smt_types.proofs.FormedTypes.{formed_option, formed_set}
+use Rattle.smt_term.proofs.FormedTypes.{formed_option, formed_set}
 use Rattle.smt_nodes.specs.View.{plain_label, plain_node}
 use Rattle.smt_nodes.specs.declared.node.Label.{Label}
 use Rattle.smt_nodes.specs.declared.node.Label.TheVariants.{TBitvec, Prim}

@@ -18,9 +18,9 @@ use Rattle.law_terms.specs.ValueOrder.{text_cmp}
 use Rattle.law_terms.proofs.SameTerm.{op_same, literal_same}
 use Rattle.law_terms.proofs.TermTotal.{ops_decided, terms_decided}
 use Rattle.law_terms.proofs.ValueOrder.{text_itself, text_same, then_equal}
-use Rattle.smt_types.specs.Entities.{bytes_of_type}
-use Rattle.smt_types.specs.ExtensionView.{plain_kind}
-use Rattle.smt_types.proofs.ExtensionOrder.{kind_cmp-is}
+use Rattle.smt_term.specs.Entities.{bytes_of_type}
+use Rattle.smt_term.specs.ExtensionView.{plain_kind}
+use Rattle.smt_term.proofs.ExtensionOrder.{kind_cmp-is}
 use Rattle.law_terms.proofs.TypeOrder.{kind_same}
 use Rattle.law_terms.specs.Types.{extension_kind_place}
 use Rattle.smt_term.specs.declared.op.Op.{Op}

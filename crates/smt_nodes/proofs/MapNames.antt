@@ -3,12 +3,12 @@ use Rattle.std.proofs.Common.{◌≡◌, List, [], ◌∷◌, map, refl, ap}
 use Rattle.std.specs.Rc.{rc_str_bytes}
 use Rattle.std.specs.declared.alloc.Global.{Global}
 use Rattle.std.specs.declared.rc.RcStr.{RcStr}
-use Rattle.smt_types.specs.Pairs.{attributes_in as attributes_beside}
+use Rattle.smt_term.specs.Pairs.{attributes_in as attributes_beside}
 use Rattle.law_terms.specs.Parts.{field_names, attribute_names}
 use Rattle.smt_term.specs.View.{plain_attribute, plain_field}
 use Rattle.law_terms.specs.Plain.{attribute_types, record_fields}
 use Rattle.smt_term.specs.declared.term.Term.{Term}
-use Rattle.smt_types.specs.declared.types.TermType.{TermType}
+use Rattle.smt_term.specs.declared.types.TermType.{TermType}
 
 pub type_names : (ps : List (RcStr Global × TermType)) → attributes_beside ps ≡ attribute_names (attribute_types (map plain_attribute ps))
 type_names [] = refl

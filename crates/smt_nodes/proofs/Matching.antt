@@ -11,9 +11,9 @@ use Rattle.std.specs.Prelude.{◌↔◌, bytes_eq}
 use Rattle.law_terms.specs.Plain.{PlainType, PlainLiteral, PlainOp, PlainTerm, Application, PlainTerms}
 use Rattle.law_terms.specs.Nodes.{PlainLabel, EntityLabel, RecordLabel, ApplicationLabel, LiteralLabel, RecordOfLabel, VariableLabel}
 use Rattle.law_terms.specs.Parts.{term_label, type_label}
-use Rattle.smt_types.specs.Entities.{bytes_of_type}
-use Rattle.smt_types.specs.contracts.entity.EntityTypePartialEq.TheImpl as entity_type_equality
-use Rattle.smt_types.specs.declared.entity.EntityType.{EntityType}
+use Rattle.smt_term.specs.Entities.{bytes_of_type}
+use Rattle.smt_term.specs.contracts.entity.EntityTypePartialEq.TheImpl as entity_type_equality
+use Rattle.smt_term.specs.declared.entity.EntityType.{EntityType}
 use Rattle.smt_term.proofs.DerivedEquality.{equal_literals, equal_operators}
 use Rattle.smt_term.specs.View.{plain_literal, plain_op}
 use Rattle.smt_term.specs.contracts.op.OpPartialEq.TheImpl as op_equality

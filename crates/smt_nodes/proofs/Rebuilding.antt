@@ -5,9 +5,9 @@ use Rattle.std.specs.Rc.{rc_str_bytes}
 use Rattle.std.specs.declared.alloc.Global.{Global}
 use Rattle.std.specs.declared.rc.RcStr.{RcStr}
 use Rattle.law_texts.specs.SharedTexts.{texts}
-use Rattle.smt_types.specs.Pairs.{attributes_in as attributes_beside}
+use Rattle.smt_term.specs.Pairs.{attributes_in as attributes_beside}
 use Rattle.smt_term.specs.View.{plain_type}
-use Rattle.smt_types.specs.declared.types.TermType.{TermType}
+use Rattle.smt_term.specs.declared.types.TermType.{TermType}
 use Rattle.smt_nodes.proofs.Interning.{more_found}
 use Rattle.smt_nodes.proofs.RecordParts.{listed-append, types_listing, types_meant}
 use Rattle.std.proofs.lemmas.List.{length-map, map-append}

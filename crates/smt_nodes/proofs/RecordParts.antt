@@ -12,9 +12,9 @@ use Rattle.law_terms.specs.Nodes.{Meaning, TypeMeaning, TermMeaning}
 use Rattle.law_terms.specs.Parts.{field_names, field_terms, types_in, attribute_names}
 use Rattle.smt_term.specs.View.{fields_of, plain_attribute, plain_attributes, plain_field, plain_fields, plain_term, plain_type}
 use Rattle.smt_term.specs.declared.maps.TermMap.{TermMap}
-use Rattle.smt_types.specs.declared.maps.TypeMap.{TypeMap}
+use Rattle.smt_term.specs.declared.type_maps.TypeMap.{TypeMap}
 use Rattle.smt_term.specs.declared.term.Term.{Term}
-use Rattle.smt_types.specs.declared.types.TermType.{TermType}
+use Rattle.smt_term.specs.declared.types.TermType.{TermType}
 use Rattle.smt_nodes.proofs.MapNames.{term_names, type_names}
 
 -- ---- there and back

@@ -67,7 +67,8 @@ pub record IsIndex (t : Table) : Type 0 where
   pub firsts : (l : Label) (id : NodeId) → first_at t l ≡ Some id → IsTrue (has_label t id l)
   pub others : (k : Key) (id : NodeId) → id_at t k ≡ Some id → IsTrue (has_label_of t id k.first) × IsTrue (has_parts t id (ids_of k.parts))
   pub unlabelled : (l : Label) (parts : List NodeId) → first_at t l ≡ None → ¬ Contains (map plain_node t.nodes.items) (node_of l parts)
-  pub missing : (l : Label) (k : Key) → first_at t l ≡ Some k.first → has_parts t k.first (ids_of k.parts) ≡ false → id_at t k ≡ None → ¬ Contains (map plain_node t.nodes.items) (node_of l (ids_of k.parts))
+  pub missing : (l : Label) (k : Key) → first_at t l ≡ Some k.first → has_parts t k.first (ids_of k.parts) ≡ false → id_at t k ≡ None →
+      ¬ Contains (map plain_node t.nodes.items) (node_of l (ids_of k.parts))
 
 -- both find the same
 abbrev pub FindsSame : Table → Table → Type 0
@@ -75,9 +76,12 @@ FindsSame t u = ((l : Label) → first_at u l ≡ first_at t l) × ((k : Key) �
 
 -- the second finds this number too, by the label of a node
 abbrev pub FindsByLabel : Table → Table → Node → NodeId → Type 0
-FindsByLabel t u n id = ((l : Label) → first_at u l ≡ cond (is_eq (label_order.ghosts.cmp n.label l)) (Some id) (first_at t l)) × ((k : Key) → id_at u k ≡ id_at t k)
+FindsByLabel t u n id =
+    ((l : Label) → first_at u l ≡ cond (is_eq (label_order.ghosts.cmp n.label l)) (Some id) (first_at t l))
+    × ((k : Key) → id_at u k ≡ id_at t k)
 
 -- the second finds this number too, by the parts of a node and by the first node of its label
 abbrev pub FindsByKey : Table → Table → NodeId → Node → NodeId → Type 0
 FindsByKey t u f n id =
-    ((l : Label) → first_at u l ≡ first_at t l) × (own : Key) × (own.first ≡ f) × (ids_of own.parts ≡ ids_of n.parts) × ((k : Key) → id_at u k ≡ cond (is_eq (key_order.ghosts.cmp own k)) (Some id) (id_at t k))
+    ((l : Label) → first_at u l ≡ first_at t l) × (own : Key) × (own.first ≡ f) × (ids_of own.parts ≡ ids_of n.parts)
+    × ((k : Key) → id_at u k ≡ cond (is_eq (key_order.ghosts.cmp own k)) (Some id) (id_at t k))

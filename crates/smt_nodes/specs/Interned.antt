@@ -15,6 +15,10 @@ nodes_of i = map plain_node i.table.nodes.items
 abbrev pub meaning_in : Interner → NodeId → Option Meaning
 meaning_in i id = meaning_at (nodes_of i) (place_of id)
 
+-- the number stands for this term
+abbrev pub IsNumber : Interner → NodeId → PlainTerm → Type 0
+IsNumber i id t = meaning_in i id ≡ Some (TermMeaning t)
+
 -- what one more node would stand for, which need not be there
 abbrev pub meaning_for : Interner → PlainNode → Option Meaning
 meaning_for i n = meaning_of (meanings (nodes_of i)) n

@@ -2,7 +2,8 @@
 use Rattle.std.specs.Prelude.{Bool, true, false, bytes_eq, nat_eq}
 use Rattle.law_terms.specs.Plain.{PlainLiteral, BitVecLiteral, BoolLiteral, EntityLiteral, ExtensionLiteral, StringLiteral}
 use Rattle.law_terms.specs.Types.{extension_kind_place, kind_of}
-use Rattle.law_terms.specs.Nodes.{PlainLabel, OptionLabel, BitVecLabel, BoolLabel, EntityLabel, ExtensionLabel, StringLabel, RecordLabel, SetLabel, FunctionLabel}
+use Rattle.law_terms.specs.Nodes.{PlainLabel, OptionLabel, BitVecLabel, BoolLabel, EntityLabel, ExtensionLabel, StringLabel, RecordLabel}
+use Rattle.law_terms.specs.Nodes.{SetLabel, FunctionLabel}
 
 -- a label of types
 abbrev pub is_type_label : PlainLabel → Bool

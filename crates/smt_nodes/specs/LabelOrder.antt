@@ -7,7 +7,9 @@ use Rattle.std.specs.declared.cmp.Ordering.TheVariants.{Less, Equal, Greater}
 use Rattle.law_terms.specs.TermOrder.{literal_cmp, op_cmp, op_place}
 use Rattle.law_terms.specs.Types.{extension_kind_place}
 use Rattle.law_terms.specs.ValueOrder.{text_cmp}
-use Rattle.law_terms.specs.Nodes.{PlainLabel, OptionLabel, BitVecLabel, BoolLabel, EntityLabel, ExtensionLabel, StringLabel, RecordLabel, SetLabel, FunctionLabel, ApplicationLabel, CallLabel, NoneLabel, LiteralLabel, RecordOfLabel, SetOfLabel, SomeLabel, VariableLabel}
+use Rattle.law_terms.specs.Nodes.{PlainLabel, OptionLabel, BitVecLabel, BoolLabel, EntityLabel, ExtensionLabel, StringLabel, RecordLabel}
+use Rattle.law_terms.specs.Nodes.{SetLabel, FunctionLabel, ApplicationLabel, CallLabel, NoneLabel, LiteralLabel, RecordOfLabel, SetOfLabel}
+use Rattle.law_terms.specs.Nodes.{SomeLabel, VariableLabel}
 use Rattle.smt_nodes.specs.View.{place_of}
 use Rattle.smt_nodes.specs.declared.id.NodeId.{NodeId}
 use Rattle.smt_nodes.specs.declared.label_order.Difference.{Difference}
@@ -77,7 +79,8 @@ attributes_apart [] [] xs ys = Nowhere
 attributes_apart [] (b ∷ bs) xs ys = Length Less
 attributes_apart (a ∷ as') [] xs ys = Length Greater
 attributes_apart (a ∷ as') (b ∷ bs) (x ∷ xs) (y ∷ ys) =
-    match_ordering (text_cmp a b) (Length Less) (elim (nat_eq (place_of x) (place_of y)) [ true ↦ attributes_apart as' bs xs ys | false ↦ At x y ]) (Length Greater)
+    match_ordering (text_cmp a b) (Length Less)
+    (elim (nat_eq (place_of x) (place_of y)) [ true ↦ attributes_apart as' bs xs ys | false ↦ At x y ]) (Length Greater)
 attributes_apart (a ∷ as') (b ∷ bs) xs ys = difference_of xs ys
 
 -- where the parts of two nodes first differ, whose labels leave them level, in the order in which terms compare them: of an

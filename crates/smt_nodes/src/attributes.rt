@@ -1,7 +1,7 @@
 // Lists of the attributes of records.
 ghost use Rattle.std.specs.Prelude.{◌≡◌, ◌↔◌, [], IfOk, IsTrue, length};
 ghost use Rattle.law_texts.specs.SharedTexts.{texts};
-ghost use Rattle.smt_types.specs.Pairs.{attributes_in};
+ghost use Rattle.smt_term.specs.Pairs.{attributes_in};
 ghost use Rattle.law_terms.specs.ValueOrder.{ascends, text_cmp};
 ghost use Rattle.smt_nodes.specs.Attributes.{attributes_of};
 

@@ -3,10 +3,13 @@ ghost use Rattle.std.specs.Prelude.{◌≡◌, ◌∷◌, ◌↔◌, [], IfNone,
 ghost use Rattle.law_terms.specs.Meanings.{all_found, meanings};
 ghost use Rattle.law_terms.specs.Nodes.{FunctionMeaning, TermMeaning, TypeMeaning};
 ghost use Rattle.law_terms.specs.Parts.{field_terms, parts_in, term_parts, type_parts, types_in};
-ghost use Rattle.law_terms.specs.Plain.{Application, OptionType, PlainType, RecordType, SetType, terms, attribute_types, record_fields};
+ghost use Rattle.law_terms.specs.Plain.{Application, OptionType, PlainType, RecordType, SetType};
+ghost use Rattle.law_terms.specs.Plain.{terms, attribute_types, record_fields};
 ghost use Rattle.law_terms.specs.Types.{field_types};
 ghost use Rattle.smt_nodes.specs.View.{places_of};
-ghost use Rattle.smt_term.specs.View.{plain_attributes, plain_fields, plain_function, plain_op, plain_term, plain_type};
+ghost use Rattle.smt_term.specs.View.{plain_attributes, plain_fields, plain_function, plain_op};
+ghost use Rattle.smt_term.specs.View.{plain_term, plain_terms, plain_type};
+ghost use Rattle.smt_nodes.specs.Interned.{IsNumber};
 
 use crate::attributes::are_attributes_of;
 use crate::interner::Interner;
@@ -20,16 +23,19 @@ impl Interner {
     /// The number that stands for a term, None exactly where none does. Takes no memory; it compares the term with one node
     /// after the other.
     pub fn find(&self, term: &Term) -> Option<NodeId>
-        ensures found { IfSome result (λ id. meaning_in self.now id ≡ Some (TermMeaning (plain_term term.now))) }
-        ensures none { IfNone result ((id : NodeId) → meaning_in self.now id ≡ Some (TermMeaning (plain_term term.now)) → ⊥) }
+        ensures found { IfSome result (λ id. IsNumber self.now id (plain_term term.now)) }
+        ensures none { IfNone result
+            ((id : NodeId) → IsNumber self.now id (plain_term term.now) → ⊥) }
     {
         self.find_subject(Subject::Term(term))
     }
 
     /// The same of a term, a type or a function.
     pub fn find_subject(&self, subject: Subject<'_>) -> Option<NodeId>
-        ensures found { IfSome result (λ id. meaning_in self.now id ≡ Some (meaning_of subject.entry)) }
-        ensures none { IfNone result ((id : NodeId) → meaning_in self.now id ≡ Some (meaning_of subject.entry) → ⊥) }
+        ensures found { IfSome result
+            (λ id. meaning_in self.now id ≡ Some (meaning_of subject.entry)) }
+        ensures none { IfNone result
+            ((id : NodeId) → meaning_in self.now id ≡ Some (meaning_of subject.entry) → ⊥) }
     {
         for place in 0..self.len() {
             let id = NodeId {
@@ -56,7 +62,7 @@ impl Interner {
     // Whether the number stands for the term: it has the term's label, and its parts are those of the term.
     #[cycle(find)]
     fn stands_for_term(&self, id: NodeId, term: &Term) -> bool
-        ensures { IsTrue result ↔ (meaning_in self.now id ≡ Some (TermMeaning (plain_term term.now))) }
+        ensures { IsTrue result ↔ (IsNumber self.now id (plain_term term.now)) }
     {
         match self.label(id) {
             Some(label) => label.is_of_term(term) && self.are_parts_of_term(self.parts(id), term),
@@ -67,7 +73,9 @@ impl Interner {
     // Whether the numbers stand for the parts of the term, the first for its type.
     #[cycle(find)]
     fn are_parts_of_term(&self, parts: &[NodeId], term: &Term) -> bool
-        ensures { IsTrue result ↔ (all_found (meanings (nodes_of self.now)) (places_of parts.now) ≡ Some (parts_in (TermMeaning (plain_term term.now)))) }
+        ensures { IsTrue result
+            ↔ (all_found (meanings (nodes_of self.now)) (places_of parts.now)
+            ≡ Some (parts_in (TermMeaning (plain_term term.now)))) }
     {
         let Some((ty, inner)) = parts.split_first() else {
             return false;
@@ -97,7 +105,10 @@ impl Interner {
     // function, where the operator is one, and for the arguments.
     #[cycle(find)]
     fn are_applied(&self, ids: &[NodeId], op: &Op, args: &[Term]) -> bool
-        ensures { (t : PlainType) → IsTrue result ↔ (all_found (meanings (nodes_of self.now)) (places_of ids.now) ≡ Some (term_parts (Application (plain_op op.now) (terms (map plain_term args.now)) t))) }
+        ensures { (t : PlainType) →
+            IsTrue result
+            ↔ (all_found (meanings (nodes_of self.now)) (places_of ids.now)
+            ≡ Some (term_parts (Application (plain_op op.now) (terms (plain_terms args.now)) t))) }
     {
         match op {
             Op::Uuf(function) => match ids.split_first() {
@@ -113,7 +124,9 @@ impl Interner {
     // Whether the numbers stand for the terms, in order.
     #[cycle(find)]
     fn stand_for_terms(&self, ids: &[NodeId], terms: &[Term]) -> bool
-        ensures { IsTrue result ↔ (all_found (meanings (nodes_of self.now)) (places_of ids.now) ≡ Some (map TermMeaning (map plain_term terms.now))) }
+        ensures { IsTrue result
+            ↔ (all_found (meanings (nodes_of self.now)) (places_of ids.now)
+            ≡ Some (map TermMeaning (plain_terms terms.now))) }
     {
         if ids.len() != terms.len() {
             return false;
@@ -129,7 +142,9 @@ impl Interner {
     // Whether the numbers stand for the terms of the fields, in order.
     #[cycle(find)]
     fn stand_for_fields(&self, ids: &[NodeId], fields: &TermMap) -> bool
-        ensures { IsTrue result ↔ (all_found (meanings (nodes_of self.now)) (places_of ids.now) ≡ Some (field_terms (record_fields (plain_fields fields.now)))) }
+        ensures { IsTrue result
+            ↔ (all_found (meanings (nodes_of self.now)) (places_of ids.now)
+            ≡ Some (field_terms (record_fields (plain_fields fields.now)))) }
     {
         let fields = fields.items();
         if ids.len() != fields.len() {
@@ -145,8 +160,12 @@ impl Interner {
 
     // Whether the number stands for the type of the record of the fields, for whose terms the others stand.
     fn is_type_of_record(&self, ty: NodeId, fields: &TermMap, inner: &[NodeId]) -> bool
-        ensures { all_found (meanings (nodes_of self.now)) (places_of inner.now) ≡ Some (field_terms (record_fields (plain_fields fields.now))) →
-            IsTrue result ↔ (meaning_in self.now ty ≡ Some (TypeMeaning (RecordType (field_types (record_fields (plain_fields fields.now)))))) }
+        ensures { all_found (meanings (nodes_of self.now)) (places_of inner.now) ≡ Some
+            (field_terms (record_fields (plain_fields fields.now))) →
+            IsTrue result
+            ↔ (meaning_in self.now ty
+            ≡ Some
+            (TypeMeaning (RecordType (field_types (record_fields (plain_fields fields.now)))))) }
     {
         match self.label(ty) {
             Some(Label::TRecord(names)) => {
@@ -159,7 +178,8 @@ impl Interner {
 
     // Whether the number stands for the function: it has the function's label, and its parts are those of the function.
     fn stands_for_function(&self, id: NodeId, function: &Uuf) -> bool
-        ensures { IsTrue result ↔ (meaning_in self.now id ≡ Some (FunctionMeaning (plain_function function.now))) }
+        ensures { IsTrue result
+            ↔ (meaning_in self.now id ≡ Some (FunctionMeaning (plain_function function.now))) }
     {
         match self.label(id) {
             Some(label) => {
@@ -172,7 +192,9 @@ impl Interner {
 
     // Whether the numbers stand for the types of the function.
     fn are_parts_of_function(&self, parts: &[NodeId], function: &Uuf) -> bool
-        ensures { IsTrue result ↔ (all_found (meanings (nodes_of self.now)) (places_of parts.now) ≡ Some (parts_in (FunctionMeaning (plain_function function.now)))) }
+        ensures { IsTrue result
+            ↔ (all_found (meanings (nodes_of self.now)) (places_of parts.now)
+            ≡ Some (parts_in (FunctionMeaning (plain_function function.now)))) }
     {
         match parts.split_first() {
             Some((arg, others)) => {
@@ -185,14 +207,16 @@ impl Interner {
 
     // Whether the number stands for options of this type.
     fn stands_for_option(&self, id: NodeId, held: &TermType) -> bool
-        ensures { IsTrue result ↔ (meaning_in self.now id ≡ Some (TypeMeaning (OptionType (plain_type held.now)))) }
+        ensures { IsTrue result
+            ↔ (meaning_in self.now id ≡ Some (TypeMeaning (OptionType (plain_type held.now)))) }
     {
         self.is_option(id) && self.are_one_type(self.parts(id), held)
     }
 
     // Whether the number stands for sets of this type.
     fn stands_for_set(&self, id: NodeId, element: &TermType) -> bool
-        ensures { IsTrue result ↔ (meaning_in self.now id ≡ Some (TypeMeaning (SetType (plain_type element.now)))) }
+        ensures { IsTrue result
+            ↔ (meaning_in self.now id ≡ Some (TypeMeaning (SetType (plain_type element.now)))) }
     {
         self.is_set(id) && self.are_one_type(self.parts(id), element)
     }
@@ -200,7 +224,8 @@ impl Interner {
     // Whether the number stands for the type: it has the type's label, and its parts are those of the type.
     #[cycle(types)]
     fn stands_for_type(&self, id: NodeId, ty: &TermType) -> bool
-        ensures { IsTrue result ↔ (meaning_in self.now id ≡ Some (TypeMeaning (plain_type ty.now))) }
+        ensures { IsTrue result
+            ↔ (meaning_in self.now id ≡ Some (TypeMeaning (plain_type ty.now))) }
     {
         match self.label(id) {
             Some(label) => label.is_of_type(ty) && self.are_parts_of_type(self.parts(id), ty),
@@ -211,7 +236,9 @@ impl Interner {
     // Whether the numbers stand for the parts of the type.
     #[cycle(types)]
     fn are_parts_of_type(&self, parts: &[NodeId], ty: &TermType) -> bool
-        ensures { IsTrue result ↔ (all_found (meanings (nodes_of self.now)) (places_of parts.now) ≡ Some (type_parts (plain_type ty.now))) }
+        ensures { IsTrue result
+            ↔ (all_found (meanings (nodes_of self.now)) (places_of parts.now)
+            ≡ Some (type_parts (plain_type ty.now))) }
     {
         match ty {
             TermType::Option { ty } => self.are_one_type(parts, ty),
@@ -228,7 +255,9 @@ impl Interner {
     // Whether the numbers stand for the types of the attributes, in order.
     #[cycle(types)]
     fn stand_for_types(&self, ids: &[NodeId], types: &TypeMap) -> bool
-        ensures { IsTrue result ↔ (all_found (meanings (nodes_of self.now)) (places_of ids.now) ≡ Some (types_in (attribute_types (plain_attributes types.now)))) }
+        ensures { IsTrue result
+            ↔ (all_found (meanings (nodes_of self.now)) (places_of ids.now)
+            ≡ Some (types_in (attribute_types (plain_attributes types.now)))) }
     {
         let attributes = types.items();
         if ids.len() != attributes.len() {
@@ -245,7 +274,9 @@ impl Interner {
     // Whether there is one number, and it stands for the type.
     #[cycle(types)]
     fn are_one_type(&self, ids: &[NodeId], ty: &TermType) -> bool
-        ensures { IsTrue result ↔ (all_found (meanings (nodes_of self.now)) (places_of ids.now) ≡ Some (TypeMeaning (plain_type ty.now) ∷ [])) }
+        ensures { IsTrue result
+            ↔ (all_found (meanings (nodes_of self.now)) (places_of ids.now)
+            ≡ Some (TypeMeaning (plain_type ty.now) ∷ [])) }
     {
         match ids {
             [] => false,

@@ -1,7 +1,9 @@
 // The numbers of nodes, and lists of them.
 ghost use Rattle.std.specs.Prelude.{◌≡◌, ◌↔◌, [], IfOk, IsTrue, length};
 ghost use Rattle.std.specs.Cmp.{on_equiv, on_per, on_po, on_total};
-ghost use Rattle.std.specs.Cmp.Lexicographic.{lists_agrees, lists_equiv, lists_per, lists_po, lists_ties, lists_total, pointwise, slice_cmp, slice_partial_cmp};
+ghost use Rattle.std.specs.Cmp.Lexicographic.{lists_agrees, lists_equiv, lists_per, lists_po};
+ghost use Rattle.std.specs.Cmp.Lexicographic.{lists_ties, lists_total, pointwise};
+ghost use Rattle.std.specs.Cmp.Lexicographic.{slice_cmp, slice_partial_cmp};
 ghost use Rattle.smt_nodes.specs.View.{ids_of, place_of};
 ghost use Rattle.smt_nodes.specs.contracts.id.NodeIdEq.TheImpl.Laws as id_equivalence_laws;
 ghost use Rattle.smt_nodes.specs.contracts.id.NodeIdOrd.TheImpl as id_order;
@@ -140,7 +142,8 @@ impl Eq for IdList {
 }
 
 impl PartialOrd for IdList {
-    ghost partial_cmp = { λ a b. slice_partial_cmp id_partial_order.ghosts.partial_cmp (ids_of a) (ids_of b) };
+    ghost partial_cmp = { λ a b.
+        slice_partial_cmp id_partial_order.ghosts.partial_cmp (ids_of a) (ids_of b) };
 
     ghost laws = { on_po ids_of (lists_po id_partial_order_laws.laws-law) };
 
@@ -154,9 +157,11 @@ impl Ord for IdList {
 
     ghost total = { on_total ids_of (lists_total id_order_laws.total-law) };
 
-    ghost matches_partial_cmp = { λ a b. lists_agrees id_order_laws.matches_partial_cmp-law (ids_of a) (ids_of b) };
+    ghost matches_partial_cmp = { λ a b.
+        lists_agrees id_order_laws.matches_partial_cmp-law (ids_of a) (ids_of b) };
 
-    ghost matches_eq = { λ a b. lists_ties id_order.ghosts.cmp id_order_laws.matches_eq-law (ids_of a) (ids_of b) };
+    ghost matches_eq = { λ a b.
+        lists_ties id_order.ghosts.cmp id_order_laws.matches_eq-law (ids_of a) (ids_of b) };
 
     fn cmp(&self, other: &IdList) -> Ordering {
         self.items().cmp(&other.items())

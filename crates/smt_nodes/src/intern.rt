@@ -2,18 +2,22 @@
 ghost use Rattle.std.specs.Prelude.{◌≡◌, ◌++◌, ◌∷◌, IfOk, List, Some, map};
 ghost use Rattle.law_terms.specs.Meanings.{all_found, meanings, stands_for};
 ghost use Rattle.law_terms.specs.Nodes.{FunctionMeaning, Meaning, TermMeaning, TypeMeaning};
-ghost use Rattle.law_terms.specs.Plain.{Application, BoolType, PlainType, terms, attribute_types, record_fields};
+ghost use Rattle.law_terms.specs.Plain.{Application, BoolType, PlainType, terms, attribute_types};
+ghost use Rattle.law_terms.specs.Plain.{record_fields};
 ghost use Rattle.law_terms.specs.Types.{type_of};
 ghost use Rattle.smt_nodes.specs.View.{places_of, plain_label};
 ghost use Rattle.law_terms.specs.Parts.{field_terms, types_in};
-ghost use Rattle.smt_term.specs.View.{plain_attributes, plain_fields, plain_function, plain_op, plain_term, plain_type};
+ghost use Rattle.smt_term.specs.View.{plain_attributes, plain_fields, plain_function, plain_op};
+ghost use Rattle.smt_term.specs.View.{plain_term, plain_terms, plain_type};
+ghost use Rattle.smt_nodes.specs.Interned.{IsNumber};
 
 use crate::interner::Interner;
 use crate::{AttrList, IdList, Label, Node, NodeId, Subject};
 use smt_term::{Op, Term, TermError, TermMap, TermType, TypeMap, Uuf};
 
 impl Interner {
-    ghost use Rattle.smt_nodes.specs.Interned.{meaning_in, nodes_of, IsMeant, KeepsMeanings, StandFor};
+    ghost use Rattle.smt_nodes.specs.Interned.{meaning_in, nodes_of, IsMeant, KeepsMeanings};
+    ghost use Rattle.smt_nodes.specs.Interned.{StandFor};
     ghost use Rattle.smt_nodes.specs.Subject.{meaning_of};
 
     /// The number that stands for a term, a type or a function. What is inside it gets numbers before it.
@@ -21,7 +25,8 @@ impl Interner {
     /// # Errors
     /// Those of `intern`.
     pub fn intern_subject(&mut self, subject: Subject<'_>) -> Result<NodeId, TermError>
-        ensures meaning { IfOk result (λ id. meaning_in self.new id ≡ Some (meaning_of subject.entry)) }
+        ensures meaning { IfOk result
+            (λ id. meaning_in self.new id ≡ Some (meaning_of subject.entry)) }
         ensures kept { KeepsMeanings self.old self.new }
     {
         match subject {
@@ -36,7 +41,8 @@ impl Interner {
     /// # Errors
     /// Those of `intern`.
     pub fn intern_terms(&mut self, terms: &[Term]) -> Result<Vec<NodeId>, TermError>
-        ensures meanings { IfOk result (λ ids. StandFor self.new ids.items (map plain_term terms.now)) }
+        ensures meanings { IfOk result
+            (λ ids. StandFor self.new ids.items (plain_terms terms.now)) }
         ensures kept { KeepsMeanings self.old self.new }
     {
         let mut ids = Vec::with_capacity(self.alloc, terms.len())?;
@@ -54,7 +60,7 @@ impl Interner {
     /// too; `TermSet` makes none.
     #[cycle(intern)]
     pub fn intern(&mut self, term: &Term) -> Result<NodeId, TermError>
-        ensures meaning { IfOk result (λ id. meaning_in self.new id ≡ Some (TermMeaning (plain_term term.now))) }
+        ensures meaning { IfOk result (λ id. IsNumber self.new id (plain_term term.now)) }
         ensures kept { KeepsMeanings self.old self.new }
     {
         let ty = self.intern_type_of(term)?;
@@ -89,7 +95,8 @@ impl Interner {
         args: &[Term],
     ) -> Result<NodeId, TermError>
         ensures meaning { (t : PlainType) → meaning_in self.old ty ≡ Some (TypeMeaning t) →
-            IfOk result (λ id. meaning_in self.new id ≡ Some (TermMeaning (Application (plain_op op.now) (terms (map plain_term args.now)) t))) }
+            IfOk result (λ id.
+            IsNumber self.new id (Application (plain_op op.now) (terms (plain_terms args.now)) t)) }
         ensures kept { KeepsMeanings self.old self.new }
     {
         match op {
@@ -108,8 +115,11 @@ impl Interner {
     // The first numbers, and then those of terms in order.
     #[cycle(intern)]
     fn intern_all(&mut self, first: &[NodeId], terms: &[Term]) -> Result<Vec<NodeId>, TermError>
-        ensures meanings { (ms : List Meaning) → all_found (meanings (nodes_of self.old)) (places_of first.now) ≡ Some ms →
-            IfOk result (λ parts. all_found (meanings (nodes_of self.new)) (places_of parts.items) ≡ Some (ms ++ map TermMeaning (map plain_term terms.now))) }
+        ensures meanings { (ms : List Meaning) →
+            all_found (meanings (nodes_of self.old)) (places_of first.now) ≡ Some ms →
+            IfOk result (λ parts.
+            all_found (meanings (nodes_of self.new)) (places_of parts.items)
+            ≡ Some (ms ++ map TermMeaning (plain_terms terms.now))) }
         ensures kept { KeepsMeanings self.old self.new }
     {
         let mut parts = Vec::new(self.alloc);
@@ -125,7 +135,9 @@ impl Interner {
     #[cycle(intern)]
     fn intern_fields(&mut self, ty: NodeId, fields: &TermMap) -> Result<Vec<NodeId>, TermError>
         ensures meanings { (m : Meaning) → meaning_in self.old ty ≡ Some m →
-            IfOk result (λ parts. all_found (meanings (nodes_of self.new)) (places_of parts.items) ≡ Some (m ∷ field_terms (record_fields (plain_fields fields.now)))) }
+            IfOk result (λ parts.
+            all_found (meanings (nodes_of self.new)) (places_of parts.items)
+            ≡ Some (m ∷ field_terms (record_fields (plain_fields fields.now)))) }
         ensures kept { KeepsMeanings self.old self.new }
     {
         let fields = fields.items();
@@ -140,7 +152,8 @@ impl Interner {
 
     // The number that stands for the type of a term. Where the term holds its type or the inner one, no type is made.
     fn intern_type_of(&mut self, term: &Term) -> Result<NodeId, TermError>
-        ensures meaning { IfOk result (λ id. meaning_in self.new id ≡ Some (TypeMeaning (type_of (plain_term term.now)))) }
+        ensures meaning { IfOk result
+            (λ id. meaning_in self.new id ≡ Some (TypeMeaning (type_of (plain_term term.now)))) }
         ensures kept { KeepsMeanings self.old self.new }
     {
         match term {
@@ -161,7 +174,8 @@ impl Interner {
 
     // The number that stands for a function. Its types get numbers before it.
     fn intern_function(&mut self, function: &Uuf) -> Result<NodeId, TermError>
-        ensures meaning { IfOk result (λ id. meaning_in self.new id ≡ Some (FunctionMeaning (plain_function function.now))) }
+        ensures meaning { IfOk result
+            (λ id. meaning_in self.new id ≡ Some (FunctionMeaning (plain_function function.now))) }
         ensures kept { KeepsMeanings self.old self.new }
     {
         let arg = self.intern_type(&function.arg)?;
@@ -185,7 +199,8 @@ impl Interner {
     // The number that stands for a type.
     #[cycle(intern_types)]
     fn intern_type(&mut self, ty: &TermType) -> Result<NodeId, TermError>
-        ensures meaning { IfOk result (λ id. meaning_in self.new id ≡ Some (TypeMeaning (plain_type ty.now))) }
+        ensures meaning { IfOk result
+            (λ id. meaning_in self.new id ≡ Some (TypeMeaning (plain_type ty.now))) }
         ensures kept { KeepsMeanings self.old self.new }
     {
         match ty {
@@ -213,7 +228,9 @@ impl Interner {
     // The numbers of the types of attributes, in order.
     #[cycle(intern_types)]
     fn intern_types(&mut self, types: &TypeMap) -> Result<Vec<NodeId>, TermError>
-        ensures meanings { IfOk result (λ parts. all_found (meanings (nodes_of self.new)) (places_of parts.items) ≡ Some (types_in (attribute_types (plain_attributes types.now)))) }
+        ensures meanings { IfOk result (λ parts.
+            all_found (meanings (nodes_of self.new)) (places_of parts.items)
+            ≡ Some (types_in (attribute_types (plain_attributes types.now)))) }
         ensures kept { KeepsMeanings self.old self.new }
     {
         let attributes = types.items();
@@ -227,7 +244,8 @@ impl Interner {
 
     // The number of the node of a label and of parts. A node that is not there is entered, where it fits.
     fn enter(&mut self, label: Label, parts: &[NodeId]) -> Result<NodeId, TermError>
-        ensures meaning { (ps : List Meaning) → all_found (meanings (nodes_of self.old)) (places_of parts.now) ≡ Some ps →
+        ensures meaning { (ps : List Meaning) →
+            all_found (meanings (nodes_of self.old)) (places_of parts.now) ≡ Some ps →
             IfOk result (λ id. meaning_in self.new id ≡ stands_for (plain_label label) ps) }
         ensures meant { IfOk result (IsMeant self.new) }
         ensures kept { KeepsMeanings self.old self.new }

@@ -1,16 +1,25 @@
 // Nodes that stand for different things, by number.
-ghost use Rattle.std.specs.Prelude.{ℕ, List, ◌≡◌, ◌↔◌, ◌+◌, ◌<◌, ◌≤◌, ◌^◌, [], Contains, IfNone, IfOk, IfSome, IsTrue, OnOk, Some, is_some, length, map, option_and_then, option_map, slice_get};
+ghost use Rattle.std.specs.Prelude.{ℕ, List, ◌≡◌, ◌↔◌, ◌+◌, ◌<◌, ◌≤◌, ◌^◌, [], Contains, IfNone};
+ghost use Rattle.std.specs.Prelude.{IfOk, IfSome, IsTrue, OnOk, Some, is_some};
+ghost use Rattle.std.specs.Prelude.{length, map, option_and_then, option_map, slice_get};
 ghost use Rattle.std.specs.Option.{ForSome};
 ghost use Rattle.std.specs.List.{AllByRecursion, list_all};
 ghost use Rattle.law_terms.specs.Fits.{applies_no_function, fits};
-ghost use Rattle.law_terms.specs.Nodes.{ApplicationLabel, BitVecLabel, BoolLabel, CallLabel, EntityLabel, ExtensionLabel, FunctionLabel, LiteralLabel, NoneLabel, OptionLabel, RecordLabel, RecordOfLabel, SetLabel, SetOfLabel, SomeLabel, StringLabel, TypeMeaning, VariableLabel};
+ghost use Rattle.law_terms.specs.Nodes.{ApplicationLabel, BitVecLabel, BoolLabel, CallLabel};
+ghost use Rattle.law_terms.specs.Nodes.{EntityLabel, ExtensionLabel, FunctionLabel};
+ghost use Rattle.law_terms.specs.Nodes.{LiteralLabel, NoneLabel, OptionLabel, RecordLabel};
+ghost use Rattle.law_terms.specs.Nodes.{RecordOfLabel, SetLabel, SetOfLabel, SomeLabel};
+ghost use Rattle.law_terms.specs.Nodes.{StringLabel, TypeMeaning, VariableLabel};
 ghost use Rattle.law_texts.specs.SharedTexts.{texts};
 ghost use Rattle.law_terms.specs.Plain.{ExtensionKind, PlainOp, PlainType};
 ghost use Rattle.law_terms.specs.Graphs.{IsGraph};
 ghost use Rattle.law_terms.specs.Meanings.{all_found, meaning_at, meanings, stands_for};
 ghost use Rattle.law_terms.specs.Parts.{label_in, parts_in};
 ghost use Rattle.smt_nodes.specs.Index.{first_at, node_of, IsIndex};
-ghost use Rattle.smt_nodes.specs.Kinds.{are_called_at, are_typed_at, ascend_at, is_bool_at, is_function_at, is_option_at, is_option_of_at, is_set_at, is_term_at, is_type_at, is_type_of_at, is_typed_at, terms_at, IsRecordAt};
+ghost use Rattle.smt_nodes.specs.Kinds.{are_called_at, are_typed_at, ascend_at, is_bool_at};
+ghost use Rattle.smt_nodes.specs.Kinds.{is_function_at, is_option_at, is_option_of_at};
+ghost use Rattle.smt_nodes.specs.Kinds.{is_set_at, is_term_at, is_type_at, is_type_of_at};
+ghost use Rattle.smt_nodes.specs.Kinds.{is_typed_at, terms_at, IsRecordAt};
 ghost use Rattle.smt_nodes.specs.View.{place_of, places_of, plain_label, plain_node};
 ghost use Rattle.smt_term.specs.View.{plain_literal, plain_op};
 
@@ -29,7 +38,8 @@ pub struct Interner {
     ghost graph: { IsGraph (map plain_node table.nodes.items) },
     ghost index: { IsIndex table },
     ghost few: { length table.nodes.items ≤ 2 ^ 32 },
-    ghost truths: { ForSome bool_type (λ id. IsTrue (is_bool_at (meaning_at (map plain_node table.nodes.items) (place_of id)))) },
+    ghost truths: { ForSome bool_type (λ id.
+        IsTrue (is_bool_at (meaning_at (map plain_node table.nodes.items) (place_of id)))) },
 }
 
 // By hand, since a derived one is written out in each function that lets an interner go.
@@ -44,7 +54,8 @@ impl Drop for Interner {
 }
 
 impl Interner {
-    ghost use Rattle.smt_nodes.specs.Interned.{meaning_for, meaning_in, nodes_of, GrowsFor, KeepsMeanings};
+    ghost use Rattle.smt_nodes.specs.Interned.{meaning_for, meaning_in, nodes_of, GrowsFor};
+    ghost use Rattle.smt_nodes.specs.Interned.{KeepsMeanings};
 
     /// An interner without nodes. Takes no memory.
     pub fn new(alloc: Global) -> Interner
@@ -73,7 +84,8 @@ impl Interner {
 
     /// The node of a number, None exactly where its place is not below the length. Takes no memory.
     pub fn node(&self, id: NodeId) -> Option<&Node>
-        ensures { option_map (λ node. plain_node node.now) result ≡ slice_get (nodes_of self.now) (place_of id) }
+        ensures { option_map (λ node. plain_node node.now) result
+            ≡ slice_get (nodes_of self.now) (place_of id) }
     {
         self.table.nodes.get(id.place())
     }
@@ -84,7 +96,8 @@ impl Interner {
     /// `Memory`, where there is none for the node, or no number is left for it.
     pub fn add(&mut self, node: Node) -> Result<NodeId, TermError>
         requires { IsTrue (fits (nodes_of self.old) (plain_node node)) }
-        ensures meaning { IfOk result (λ id. meaning_in self.new id ≡ meaning_for self.old (plain_node node)) }
+        ensures meaning { IfOk result
+            (λ id. meaning_in self.new id ≡ meaning_for self.old (plain_node node)) }
         ensures kept { KeepsMeanings self.old self.new }
         ensures grown { OnOk result (GrowsFor self.old self.new (plain_node node)) }
     {
@@ -102,8 +115,13 @@ impl Interner {
         parts: &[NodeId],
     ) -> Result<Option<NodeId>, TermError>
         requires { IfSome first (λ id. place_of id < length self.now.table.nodes.items) }
-        ensures found { (label : Label) → first ≡ first_at self.now.table label → IfOk result (λ found. IfSome found (λ id. slice_get (nodes_of self.now) (place_of id) ≡ Some (node_of label parts.now))) }
-        ensures missing { (label : Label) → first ≡ first_at self.now.table label → IfOk result (λ found. IfNone found (¬ Contains (nodes_of self.now) (node_of label parts.now))) }
+        ensures found { (label : Label) → first ≡ first_at self.now.table label →
+            IfOk result (λ found.
+            IfSome found
+            (λ id. slice_get (nodes_of self.now) (place_of id) ≡ Some (node_of label parts.now))) }
+        ensures missing { (label : Label) → first ≡ first_at self.now.table label →
+            IfOk result
+            (λ found. IfNone found (¬ Contains (nodes_of self.now) (node_of label parts.now))) }
     {
         let Some(first) = first else {
             return Ok(None);
@@ -131,7 +149,8 @@ impl Interner {
         requires fits { IsTrue (fits (nodes_of self.old) (plain_node node)) }
         requires first { first ≡ first_at self.old.table node.label }
         requires missing { ¬ Contains (nodes_of self.old) (plain_node node) }
-        ensures meaning { IfOk result (λ id. meaning_in self.new id ≡ meaning_for self.old (plain_node node)) }
+        ensures meaning { IfOk result
+            (λ id. meaning_in self.new id ≡ meaning_for self.old (plain_node node)) }
         ensures kept { KeepsMeanings self.old self.new }
         ensures grown { OnOk result (GrowsFor self.old self.new (plain_node node)) }
     {
@@ -168,11 +187,24 @@ impl Interner {
 
     // Whether these are the parts of a type that has none.
     fn fits_alone(&self, parts: &[NodeId]) -> bool
-        ensures bits { (n : ℕ) → result ≡ is_some (option_and_then (stands_for (BitVecLabel n)) (all_found (meanings (nodes_of self.now)) (places_of parts.now))) }
-        ensures truths { result ≡ is_some (option_and_then (stands_for BoolLabel) (all_found (meanings (nodes_of self.now)) (places_of parts.now))) }
-        ensures entities { (name : List ℕ) → result ≡ is_some (option_and_then (stands_for (EntityLabel name)) (all_found (meanings (nodes_of self.now)) (places_of parts.now))) }
-        ensures extensions { (kind : ExtensionKind) → result ≡ is_some (option_and_then (stands_for (ExtensionLabel kind)) (all_found (meanings (nodes_of self.now)) (places_of parts.now))) }
-        ensures texts { result ≡ is_some (option_and_then (stands_for StringLabel) (all_found (meanings (nodes_of self.now)) (places_of parts.now))) }
+        ensures bits { (n : ℕ) →
+            result
+            ≡ is_some (option_and_then (stands_for (BitVecLabel n))
+            (all_found (meanings (nodes_of self.now)) (places_of parts.now))) }
+        ensures truths { result
+            ≡ is_some (option_and_then (stands_for BoolLabel)
+            (all_found (meanings (nodes_of self.now)) (places_of parts.now))) }
+        ensures entities { (name : List ℕ) →
+            result
+            ≡ is_some (option_and_then (stands_for (EntityLabel name))
+            (all_found (meanings (nodes_of self.now)) (places_of parts.now))) }
+        ensures extensions { (kind : ExtensionKind) →
+            result
+            ≡ is_some (option_and_then (stands_for (ExtensionLabel kind))
+            (all_found (meanings (nodes_of self.now)) (places_of parts.now))) }
+        ensures texts { result
+            ≡ is_some (option_and_then (stands_for StringLabel)
+            (all_found (meanings (nodes_of self.now)) (places_of parts.now))) }
     {
         match parts {
             [] => true,
@@ -182,8 +214,12 @@ impl Interner {
 
     // Whether these are the parts of a type that has a type inside it.
     fn fits_around_type(&self, parts: &[NodeId]) -> bool
-        ensures option { result ≡ is_some (option_and_then (stands_for OptionLabel) (all_found (meanings (nodes_of self.now)) (places_of parts.now))) }
-        ensures set { result ≡ is_some (option_and_then (stands_for SetLabel) (all_found (meanings (nodes_of self.now)) (places_of parts.now))) }
+        ensures option { result
+            ≡ is_some (option_and_then (stands_for OptionLabel)
+            (all_found (meanings (nodes_of self.now)) (places_of parts.now))) }
+        ensures set { result
+            ≡ is_some (option_and_then (stands_for SetLabel)
+            (all_found (meanings (nodes_of self.now)) (places_of parts.now))) }
     {
         match parts {
             [] => false,
@@ -193,7 +229,10 @@ impl Interner {
     }
 
     fn fits_function(&self, parts: &[NodeId]) -> bool
-        ensures { (id : List ℕ) → result ≡ is_some (option_and_then (stands_for (FunctionLabel id)) (all_found (meanings (nodes_of self.now)) (places_of parts.now))) }
+        ensures { (id : List ℕ) →
+            result
+            ≡ is_some (option_and_then (stands_for (FunctionLabel id))
+            (all_found (meanings (nodes_of self.now)) (places_of parts.now))) }
     {
         match parts {
             [] => false,
@@ -205,7 +244,9 @@ impl Interner {
 
     // Whether these are the parts of the operator's application. That of a function is a call, so it fits no parts.
     fn fits_operator(&self, op: &Op, parts: &[NodeId]) -> bool
-        ensures { result ≡ is_some (option_and_then (stands_for (ApplicationLabel (plain_op op.now))) (all_found (meanings (nodes_of self.now)) (places_of parts.now))) }
+        ensures { result
+            ≡ is_some (option_and_then (stands_for (ApplicationLabel (plain_op op.now)))
+            (all_found (meanings (nodes_of self.now)) (places_of parts.now))) }
     {
         match op {
             Op::Uuf(_) => false,
@@ -214,7 +255,10 @@ impl Interner {
     }
 
     fn fits_application(&self, parts: &[NodeId]) -> bool
-        ensures { (o : PlainOp) → IsTrue (applies_no_function (ApplicationLabel o)) → result ≡ is_some (option_and_then (stands_for (ApplicationLabel o)) (all_found (meanings (nodes_of self.now)) (places_of parts.now))) }
+        ensures { (o : PlainOp) → IsTrue (applies_no_function (ApplicationLabel o)) →
+            result
+            ≡ is_some (option_and_then (stands_for (ApplicationLabel o))
+            (all_found (meanings (nodes_of self.now)) (places_of parts.now))) }
     {
         match parts.split_first() {
             Some((ty, args)) => self.is_type(*ty) && self.are_terms(args),
@@ -223,7 +267,9 @@ impl Interner {
     }
 
     fn fits_call(&self, parts: &[NodeId]) -> bool
-        ensures { result ≡ is_some (option_and_then (stands_for CallLabel) (all_found (meanings (nodes_of self.now)) (places_of parts.now))) }
+        ensures { result
+            ≡ is_some (option_and_then (stands_for CallLabel)
+            (all_found (meanings (nodes_of self.now)) (places_of parts.now))) }
     {
         match parts.split_first() {
             Some((ty, called)) => self.is_type(*ty) && self.are_called(called),
@@ -233,7 +279,8 @@ impl Interner {
 
     // Whether these are a function and then terms.
     fn are_called(&self, ids: &[NodeId]) -> bool
-        ensures { result ≡ are_called_at (all_found (meanings (nodes_of self.now)) (places_of ids.now)) }
+        ensures { result
+            ≡ are_called_at (all_found (meanings (nodes_of self.now)) (places_of ids.now)) }
     {
         match ids.split_first() {
             Some((function, args)) => self.is_function(*function) && self.are_terms(args),
@@ -243,7 +290,9 @@ impl Interner {
 
     // Whether these are the parts of a record type of these attributes.
     fn fits_record_type(&self, names: &[Attr], parts: &[NodeId]) -> bool
-        ensures { result ≡ is_some (option_and_then (stands_for (RecordLabel (texts names.now))) (all_found (meanings (nodes_of self.now)) (places_of parts.now))) }
+        ensures { result
+            ≡ is_some (option_and_then (stands_for (RecordLabel (texts names.now)))
+            (all_found (meanings (nodes_of self.now)) (places_of parts.now))) }
     {
         if names.len() != parts.len() {
             return false;
@@ -254,7 +303,9 @@ impl Interner {
     // Whether these are the parts of a record of these attributes: its type, and then a term for each attribute, of the type
     // that this one has in the record's type. That the attributes ascend is known of the type.
     fn fits_record(&self, names: &[Attr], parts: &[NodeId]) -> bool
-        ensures { result ≡ is_some (option_and_then (stands_for (RecordOfLabel (texts names.now))) (all_found (meanings (nodes_of self.now)) (places_of parts.now))) }
+        ensures { result
+            ≡ is_some (option_and_then (stands_for (RecordOfLabel (texts names.now)))
+            (all_found (meanings (nodes_of self.now)) (places_of parts.now))) }
     {
         match parts.split_first() {
             Some((ty, fields)) => {
@@ -265,7 +316,9 @@ impl Interner {
     }
 
     fn fits_set(&self, parts: &[NodeId]) -> bool
-        ensures { result ≡ is_some (option_and_then (stands_for SetOfLabel) (all_found (meanings (nodes_of self.now)) (places_of parts.now))) }
+        ensures { result
+            ≡ is_some (option_and_then (stands_for SetOfLabel)
+            (all_found (meanings (nodes_of self.now)) (places_of parts.now))) }
     {
         match parts.split_first() {
             Some((ty, elements)) => self.is_set(*ty) && self.are_elements(elements),
@@ -274,7 +327,9 @@ impl Interner {
     }
 
     fn fits_some(&self, parts: &[NodeId]) -> bool
-        ensures { result ≡ is_some (option_and_then (stands_for SomeLabel) (all_found (meanings (nodes_of self.now)) (places_of parts.now))) }
+        ensures { result
+            ≡ is_some (option_and_then (stands_for SomeLabel)
+            (all_found (meanings (nodes_of self.now)) (places_of parts.now))) }
     {
         match parts {
             [] => false,
@@ -285,7 +340,9 @@ impl Interner {
     }
 
     fn fits_none(&self, parts: &[NodeId]) -> bool
-        ensures { result ≡ is_some (option_and_then (stands_for NoneLabel) (all_found (meanings (nodes_of self.now)) (places_of parts.now))) }
+        ensures { result
+            ≡ is_some (option_and_then (stands_for NoneLabel)
+            (all_found (meanings (nodes_of self.now)) (places_of parts.now))) }
     {
         match parts {
             [] => false,
@@ -295,7 +352,9 @@ impl Interner {
     }
 
     fn fits_literal(&self, literal: &TermPrim, parts: &[NodeId]) -> bool
-        ensures { result ≡ is_some (option_and_then (stands_for (LiteralLabel (plain_literal literal.now))) (all_found (meanings (nodes_of self.now)) (places_of parts.now))) }
+        ensures { result
+            ≡ is_some (option_and_then (stands_for (LiteralLabel (plain_literal literal.now)))
+            (all_found (meanings (nodes_of self.now)) (places_of parts.now))) }
     {
         match parts {
             [] => false,
@@ -305,7 +364,10 @@ impl Interner {
     }
 
     fn fits_variable(&self, parts: &[NodeId]) -> bool
-        ensures { (id : List ℕ) → result ≡ is_some (option_and_then (stands_for (VariableLabel id)) (all_found (meanings (nodes_of self.now)) (places_of parts.now))) }
+        ensures { (id : List ℕ) →
+            result
+            ≡ is_some (option_and_then (stands_for (VariableLabel id))
+            (all_found (meanings (nodes_of self.now)) (places_of parts.now))) }
     {
         match parts {
             [] => false,
@@ -323,7 +385,8 @@ impl Interner {
 
     /// The label of a number's node, None exactly where it has no node. Takes no memory.
     pub fn label(&self, id: NodeId) -> Option<&Label>
-        ensures { option_map (λ label. plain_label label.now) result ≡ option_map label_in (meaning_in self.now id) }
+        ensures { option_map (λ label. plain_label label.now) result
+            ≡ option_map label_in (meaning_in self.now id) }
     {
         match self.node(id) {
             Some(node) => Some(&node.label),
@@ -333,7 +396,8 @@ impl Interner {
 
     /// The parts of a number's node, which stand before it; none where it has no node. Takes no memory.
     pub fn parts(&self, id: NodeId) -> &[NodeId]
-        ensures found { IfSome (meaning_in self.now id) (λ m. all_found (meanings (nodes_of self.now)) (places_of result.now) ≡ Some (parts_in m)) }
+        ensures found { IfSome (meaning_in self.now id) (λ m.
+            all_found (meanings (nodes_of self.now)) (places_of result.now) ≡ Some (parts_in m)) }
         ensures earlier { AllByRecursion (λ part. part < place_of id) (places_of result.now) }
     {
         match self.node(id) {
@@ -371,7 +435,9 @@ impl Interner {
     }
 
     fn are_terms(&self, ids: &[NodeId]) -> bool
-        ensures { result ≡ list_all (λ place. is_term_at (meaning_at (nodes_of self.now) place)) (places_of ids.now) }
+        ensures { result
+            ≡ list_all (λ place. is_term_at (meaning_at (nodes_of self.now) place))
+            (places_of ids.now) }
     {
         for id in ids {
             if !self.is_term(*id) {
@@ -382,7 +448,9 @@ impl Interner {
     }
 
     fn are_types(&self, ids: &[NodeId]) -> bool
-        ensures { result ≡ list_all (λ place. is_type_at (meaning_at (nodes_of self.now) place)) (places_of ids.now) }
+        ensures { result
+            ≡ list_all (λ place. is_type_at (meaning_at (nodes_of self.now) place))
+            (places_of ids.now) }
     {
         for id in ids {
             if !self.is_type(*id) {
@@ -404,8 +472,11 @@ impl Interner {
 
     // Whether these are terms of these types, in order.
     pub(crate) fn are_typed(&self, terms: &[NodeId], types: &[NodeId]) -> bool
-        ensures { (us : List PlainType) → all_found (meanings (nodes_of self.now)) (places_of types.now) ≡ Some (map TypeMeaning us) →
-            result ≡ are_typed_at us (all_found (meanings (nodes_of self.now)) (places_of terms.now)) }
+        ensures { (us : List PlainType) →
+            all_found (meanings (nodes_of self.now)) (places_of types.now) ≡ Some
+            (map TypeMeaning us) →
+            result
+            ≡ are_typed_at us (all_found (meanings (nodes_of self.now)) (places_of terms.now)) }
     {
         match terms.split_first() {
             Some((term, terms)) => match types.split_first() {
@@ -418,7 +489,8 @@ impl Interner {
 
     // Whether it is a term of this type.
     fn is_typed(&self, term: NodeId, ty: NodeId) -> bool
-        ensures { (u : PlainType) → meaning_in self.now ty ≡ Some (TypeMeaning u) → result ≡ is_typed_at u (meaning_in self.now term) }
+        ensures { (u : PlainType) → meaning_in self.now ty ≡ Some (TypeMeaning u) →
+            result ≡ is_typed_at u (meaning_in self.now term) }
     {
         if !self.is_term(term) {
             return false;

@@ -3,7 +3,8 @@ ghost use Rattle.std.specs.Prelude.{◌≡◌};
 ghost use Rattle.std.specs.Ordering.{nat_cmp};
 ghost use Rattle.law_terms.specs.Nodes.{RecordOfLabel, SomeLabel};
 ghost use Rattle.law_terms.specs.TermOrder.{op_place};
-ghost use Rattle.smt_nodes.specs.LabelOrder.{attributes_apart, difference_of, first_cmp, function_place, parts_apart};
+ghost use Rattle.smt_nodes.specs.LabelOrder.{attributes_apart, difference_of, first_cmp};
+ghost use Rattle.smt_nodes.specs.LabelOrder.{function_place, parts_apart};
 ghost use Rattle.smt_nodes.specs.View.{plain_label};
 ghost use Rattle.law_texts.specs.SharedTexts.{texts};
 ghost use Rattle.smt_term.specs.View.{plain_op};
@@ -121,7 +122,9 @@ fn attributes_difference(
 
 // The same of two records, whose types go with their terms.
 fn behind_type(names: &[Attr], others: &[Attr], xs: &[NodeId], ys: &[NodeId]) -> Difference
-    ensures { result ≡ parts_apart (RecordOfLabel (texts names.now)) (RecordOfLabel (texts others.now)) xs.now ys.now }
+    ensures { result
+        ≡ parts_apart (RecordOfLabel (texts names.now)) (RecordOfLabel (texts others.now)) xs.now
+        ys.now }
 {
     match xs {
         [] => first_difference(xs, ys),

@@ -4,7 +4,8 @@ ghost use Rattle.law_terms.specs.Nodes.{FunctionMeaning};
 ghost use Rattle.law_terms.specs.Parts.{label_in, term_label, type_label};
 ghost use Rattle.law_terms.specs.Plain.{Application, PlainTerms, PlainType};
 ghost use Rattle.smt_nodes.specs.View.{plain_label, plain_node};
-ghost use Rattle.smt_term.specs.View.{plain_function, plain_literal, plain_op, plain_term, plain_type};
+ghost use Rattle.smt_term.specs.View.{plain_function, plain_literal, plain_op, plain_term};
+ghost use Rattle.smt_term.specs.View.{plain_type};
 
 use crate::attributes::{AttrList, are_attributes_of};
 use crate::id::IdList;
@@ -84,7 +85,8 @@ pub struct Node {
 }
 
 impl Label {
-    ghost use Rattle.smt_nodes.specs.LabelKinds.{is_function_label, is_literal_label, is_term_label, is_type_label};
+    ghost use Rattle.smt_nodes.specs.LabelKinds.{is_function_label, is_literal_label};
+    ghost use Rattle.smt_nodes.specs.LabelKinds.{is_term_label, is_type_label};
 
     /// Whether it is that of a type.
     pub fn is_type(&self) -> bool
@@ -215,7 +217,9 @@ impl Label {
 
     // Whether it is that of the operator's applications.
     fn is_of_operator(&self, op: &Op) -> bool
-        ensures { (ts : PlainTerms) (t : PlainType) → IsTrue result ↔ (plain_label self.now ≡ term_label (Application (plain_op op.now) ts t)) }
+        ensures { (ts : PlainTerms) (t : PlainType) →
+            IsTrue result
+            ↔ (plain_label self.now ≡ term_label (Application (plain_op op.now) ts t)) }
     {
         match op {
             Op::Uuf(_) => *self == Label::Call,
@@ -228,7 +232,8 @@ impl Label {
 
     /// Whether it is that of the function.
     pub fn is_of_function(&self, function: &Uuf) -> bool
-        ensures { IsTrue result ↔ (plain_label self.now ≡ label_in (FunctionMeaning (plain_function function.now))) }
+        ensures { IsTrue result
+            ↔ (plain_label self.now ≡ label_in (FunctionMeaning (plain_function function.now))) }
     {
         match self {
             Label::Fun(own) => *own == function.id,

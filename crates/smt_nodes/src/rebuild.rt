@@ -10,6 +10,7 @@ ghost use Rattle.smt_nodes.specs.Kinds.{is_type_at};
 ghost use Rattle.smt_nodes.specs.View.{place_of, places_of};
 ghost use Rattle.std.specs.List.{AllByRecursion};
 ghost use Rattle.smt_term.specs.View.{plain_type};
+ghost use Rattle.smt_term.specs.TypeView.{BuildsType};
 
 use crate::interner::Interner;
 use crate::{Label, NodeId};
@@ -53,9 +54,11 @@ impl Interner {
     ) -> Result<TermType, TermError>
         requires earlier { AllByRecursion (λ part. part < place_of id) (places_of parts.now) }
         requires ascending { IsTrue (ascends text_cmp (texts names.now)) }
-        requires types { (x : AttributeTypes) × (texts names.now ≡ attribute_names x) × (all_found (meanings (nodes_of self.now)) (places_of parts.now) ≡ Some (types_in x)) }
-        ensures { (x : AttributeTypes) → texts names.now ≡ attribute_names x → all_found (meanings (nodes_of self.now)) (places_of parts.now) ≡ Some (types_in x) →
-            IfOk result (λ ty. plain_type ty ≡ RecordType x) }
+        requires types { (x : AttributeTypes) × (texts names.now ≡ attribute_names x)
+            × (all_found (meanings (nodes_of self.now)) (places_of parts.now) ≡ Some (types_in x)) }
+        ensures { (x : AttributeTypes) → texts names.now ≡ attribute_names x →
+            all_found (meanings (nodes_of self.now)) (places_of parts.now) ≡ Some (types_in x) →
+            BuildsType result (RecordType x) }
     {
         let mut pairs = Vec::with_capacity(self.alloc, names.len())?;
         for i in 0..names.len() {

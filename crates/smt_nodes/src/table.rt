@@ -1,6 +1,8 @@
 // Nodes in their order, and a table that finds them.
-ghost use Rattle.std.specs.Prelude.{◌≡◌, ◌<◌, ◌^◌, ◌++◌, ◌∷◌, [], Contains, IfNone, IfOk, IfSome, None, OnErr, OnOk, Some, length, map};
-ghost use Rattle.smt_nodes.specs.Index.{bits_of, first_at, has_parts, node_at, node_of, FindsByKey, FindsByLabel, FindsSame, IsIndex};
+ghost use Rattle.std.specs.Prelude.{◌≡◌, ◌<◌, ◌^◌, ◌++◌, ◌∷◌, [], Contains, IfNone, IfOk, IfSome};
+ghost use Rattle.std.specs.Prelude.{None, OnErr, OnOk, Some, length, map};
+ghost use Rattle.smt_nodes.specs.Index.{bits_of, first_at, has_parts, node_at, node_of, FindsByKey};
+ghost use Rattle.smt_nodes.specs.Index.{FindsByLabel, FindsSame, IsIndex};
 ghost use Rattle.smt_nodes.specs.View.{place_of, plain_node};
 
 use crate::id::{IdList, NodeId};
@@ -94,8 +96,13 @@ impl Table {
     ) -> Result<Option<NodeId>, TermError>
         requires index { IsIndex self.now }
         requires within { place_of first < length self.now.nodes.items }
-        ensures found { (label : Label) → first_at self.now label ≡ Some first → IfOk result (λ found. IfSome found (λ id. node_at self.now id ≡ Some (node_of label parts.now))) }
-        ensures missing { (label : Label) → first_at self.now label ≡ Some first → IfOk result (λ found. IfNone found (¬ Contains (map plain_node self.now.nodes.items) (node_of label parts.now))) }
+        ensures found { (label : Label) → first_at self.now label ≡ Some first →
+            IfOk result
+            (λ found. IfSome found (λ id. node_at self.now id ≡ Some (node_of label parts.now))) }
+        ensures missing { (label : Label) → first_at self.now label ≡ Some first →
+            IfOk result (λ found.
+            IfNone found
+            (¬ Contains (map plain_node self.now.nodes.items) (node_of label parts.now))) }
     {
         if self.has_parts(first, parts) {
             return Ok(Some(first));
@@ -142,7 +149,8 @@ impl Table {
     fn enter_id(&mut self, first: Option<NodeId>, node: &Node, id: NodeId) -> Result<(), TermError>
         ensures nodes { self.new.nodes ≡ self.old.nodes }
         ensures label { first ≡ None → OnOk result (FindsByLabel self.old self.new node.now id) }
-        ensures key { (own : NodeId) → first ≡ Some own → OnOk result (FindsByKey self.old self.new own node.now id) }
+        ensures key { (own : NodeId) → first ≡ Some own →
+            OnOk result (FindsByKey self.old self.new own node.now id) }
         ensures same { OnErr result (FindsSame self.old self.new) }
     {
         match first {

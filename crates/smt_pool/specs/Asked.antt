@@ -18,7 +18,8 @@ pub record FailsAtCheck (before now : LinkState) (script : List ℕ) (e : Solver
   pub asked : LinkState
   pub sent : Exchanges before asked (logic_text ++ script) []
   pub spared : Spares before asked
-  pub why : RefusesEnded asked now e ⊎ Refuses (Exchanges asked now check_sat_text) (Exchanges asked now check_sat_text) IsNoDecision asked now e
+  pub why : RefusesEnded asked now e
+      ⊎ Refuses (Exchanges asked now check_sat_text) (Exchanges asked now check_sat_text) IsNoDecision asked now e
   pub kills : KillsOnly IsNothing asked now check_sat_text
 
 -- Why a session in hand gives no verdict, by whether it had failed before and by what its link told before and tells now: it had,

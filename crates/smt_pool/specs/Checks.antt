@@ -8,7 +8,9 @@ use Rattle.smt_solve.specs.Question.{Exchanges, IsNothing, IsPiece, KillsOnly, R
 use Rattle.smt_solve.specs.Starter.{Command as SolverCall, StarterState, add_told}
 use Rattle.smt_solve.specs.declared.answer.Decision.{Decision}
 use Rattle.smt_solve.specs.declared.error.SolverError.{SolverError}
-use Rattle.smt_solve.specs.declared.error.SolverError.TheVariants.{Io as IoError, Solver as SolverSays, UnrecognizedSolverOutput as OtherOutput, SolverMarkedFailed, AnswerTooLong as TooLongAnswer, Memory as SolverWant}
+use Rattle.smt_solve.specs.declared.error.SolverError.TheVariants.{Io as IoError, Solver as SolverSays}
+use Rattle.smt_solve.specs.declared.error.SolverError.TheVariants.{UnrecognizedSolverOutput as OtherOutput, SolverMarkedFailed}
+use Rattle.smt_solve.specs.declared.error.SolverError.TheVariants.{AnswerTooLong as TooLongAnswer, Memory as SolverWant}
 use Rattle.law_verdicts.specs.Verdicts.{logic_text, question_of}
 use Rattle.smt_pool.specs.declared.check_error.CheckError.{CheckError}
 use Rattle.smt_pool.specs.declared.check_error.CheckError.TheVariants.{Start, Session, Memory}
@@ -63,7 +65,8 @@ pub record FailsToAnswer (now : LinkState) (lines : List ℕ) (kind : SessionFau
   pub ready : IsReady before lines
   pub error : SolverError
   pub is_kind : session_error error ≡ Session kind
-  pub why : RefusesEnded before now error ⊎ Refuses (Exchanges before now check_sat_text) (Exchanges before now check_sat_text) IsNoDecision before now error
+  pub why : RefusesEnded before now error
+      ⊎ Refuses (Exchanges before now check_sat_text) (Exchanges before now check_sat_text) IsNoDecision before now error
   pub kills : KillsOnly IsNothing before now check_sat_text
 
 -- Lines before the check could not be sent to a link that tells this now, and the solver was not killed.
@@ -86,15 +89,18 @@ pub record Returns {L : Type 0} (holds : L → Type 0) (old new : StarterState L
   pub of_link : holds link
 
 -- A solver was started by this command, was sent a script as a question, and decided so. Its link came back.
-abbrev pub Decides : {L : Type 0} → (state : L → LinkState) → (allows : List ℕ → List ℕ → List ℕ → Type 0) → (old new : StarterState L) → SolverCall → (script : List ℕ) → Decision → Type 0
+abbrev pub Decides : {L : Type 0} → (state : L → LinkState) → (allows : List ℕ → List ℕ → List ℕ → Type 0) → (old new : StarterState L) →
+    SolverCall → (script : List ℕ) → Decision → Type 0
 Decides state allows old new command script d = Returns (λ link. IsAnswered allows (state link) (question_of script) d) old new command
 
 -- Why a link is the reason that there is no verdict; where it has failed, the starter's count of link faults shows it.
 abbrev pub FailsOn : {L : Type 0} → (state : L → LinkState) → (old new : StarterState L) → (script : List ℕ) → SessionFault → L → Type 0
-FailsOn state old new script kind link = WhyUndecided (state link) script (Session kind) × (0 < (state link).faults → Rose old.link_faults new.link_faults)
+FailsOn state old new script kind link =
+    WhyUndecided (state link) script (Session kind) × (0 < (state link).faults → Rose old.link_faults new.link_faults)
 
 -- why there is no verdict: the solver did not start, its session failed, or there was no memory
-abbrev pub WhyUnchecked : {L : Type 0} → (state : L → LinkState) → (old new : StarterState L) → SolverCall → (script : List ℕ) → CheckError → Type 0
+abbrev pub WhyUnchecked : {L : Type 0} → (state : L → LinkState) → (old new : StarterState L) → SolverCall → (script : List ℕ) →
+    CheckError → Type 0
 WhyUnchecked state old new command script Start = Rose old.failed_starts new.failed_starts
 WhyUnchecked state old new command script (Session kind) = Returns (FailsOn state old new script kind) old new command
 WhyUnchecked state old new command script Memory = ⊤

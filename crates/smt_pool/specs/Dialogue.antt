@@ -14,7 +14,8 @@ use Rattle.smt_pool.specs.declared.check_error.SessionFault.{SessionFault}
 
 -- A link has answered the same checks as before, and these lines were sent behind what stood behind the last of them.
 abbrev pub TakesMore : (old new : LinkState) → (lines : List ℕ) → Type 0
-TakesMore old new lines = (checks : List AnsweredCheck) (rest : List ℕ) → HasAnswered old checks rest → HasAnswered new checks (rest ++ lines)
+TakesMore old new lines =
+    (checks : List AnsweredCheck) (rest : List ℕ) → HasAnswered old checks rest → HasAnswered new checks (rest ++ lines)
 
 -- What a link gave is as allowed after a call as before it.
 abbrev pub StaysAllowed : (allows : List ℕ → List ℕ → List ℕ → Type 0) → (old new : LinkState) → Type 0
@@ -27,8 +28,10 @@ with_check checks lines answer d = checks ++ (record { lines = lines; answer = a
 -- A link answered one check more, of these lines behind what was sent since the last: its line decides so, is allowed there, and is
 -- the only one that was read.
 abbrev pub AnswersNext : (allows : List ℕ → List ℕ → List ℕ → Type 0) → (old new : LinkState) → (lines : List ℕ) → Decision → Type 0
-AnswersNext allows old new lines d = (checks : List AnsweredCheck) (rest : List ℕ) → HasAnswered old checks rest → GaveAllowed allows old checks
-    → (answer : List ℕ) × HasAnswered new (with_check checks (rest ++ lines) answer d) [] × GaveAllowed allows new (with_check checks (rest ++ lines) answer d)
+AnswersNext allows old new lines d =
+    (checks : List AnsweredCheck) (rest : List ℕ) → HasAnswered old checks rest → GaveAllowed allows old checks
+    → (answer : List ℕ) × HasAnswered new (with_check checks (rest ++ lines) answer d) []
+    × GaveAllowed allows new (with_check checks (rest ++ lines) answer d)
 
 -- Why lines of a dialogue could not be sent, on a link that tells this now: it has failed, without a kill, or there was no memory.
 abbrev pub WhyUnsent : (now : LinkState) → CheckError → Type 0
@@ -43,7 +46,8 @@ pub record FailsBehind (now : LinkState) (checks : List AnsweredCheck) (lines : 
   pub answered : HasAnswered before checks lines
   pub error : SolverError
   pub is_kind : session_error error ≡ Session kind
-  pub why : RefusesEnded before now error ⊎ Refuses (Exchanges before now check_sat_text) (Exchanges before now check_sat_text) IsNoDecision before now error
+  pub why : RefusesEnded before now error
+      ⊎ Refuses (Exchanges before now check_sat_text) (Exchanges before now check_sat_text) IsNoDecision before now error
   pub kills : KillsOnly IsNothing before now check_sat_text
 
 -- Why the next check has no answer, behind these checks and lines, on a link that tells this now: it failed, or lines before it
@@ -55,4 +59,5 @@ WhyUnanswered now checks lines Memory = ⊤
 
 -- Why a link that had answered checks does not answer the next one, of these lines behind what was sent since the last.
 abbrev pub RefusesNext : (old new : LinkState) → (lines : List ℕ) → CheckError → Type 0
-RefusesNext old new lines e = (checks : List AnsweredCheck) (rest : List ℕ) → HasAnswered old checks rest → WhyUnanswered new checks (rest ++ lines) e
+RefusesNext old new lines e =
+    (checks : List AnsweredCheck) (rest : List ℕ) → HasAnswered old checks rest → WhyUnanswered new checks (rest ++ lines) e

@@ -9,4 +9,6 @@ module _ (L : RattleType) (s : MutBor (PooledSolver L.Denot)) where
   -- A session that a pool has handed out lends its input as `r`: when the loan is over, the session has what `r` then is for
   -- its input, and is as before otherwise.
   abbrev pub LendsInput : MutBor (SessionInput L.Denot) → Fml
-  LendsInput r = Lends (the_row L) (input_row L) s r (λ w. record { session = record { input = w; alloc = s.now.session.alloc }; number = s.now.number })
+  LendsInput r =
+      Lends (the_row L) (input_row L) s r
+      (λ w. record { session = record { input = w; alloc = s.now.session.alloc }; number = s.now.number })

@@ -1,5 +1,6 @@
 -- What a pool has, and what its calls do to it.
-use Rattle.std.specs.Prelude.{ℕ, ◌+◌, ◌<◌, ◌≡◌, ◌⊎◌, ⊤, false, IsTrue, List, [], ◌∷◌, ◌++◌, length, map, replicate, IfSome, IsOkUnless, OnErr, Bool, Result}
+use Rattle.std.specs.Prelude.{ℕ, ◌+◌, ◌<◌, ◌≡◌, ◌⊎◌, ⊤, false, IsTrue, List, [], ◌∷◌, ◌++◌, length, map, replicate, IfSome, IsOkUnless}
+use Rattle.std.specs.Prelude.{OnErr, Bool, Result}
 use Rattle.smt_script.specs.CommandTexts.{reset_text}
 use Rattle.smt_script.specs.Sink.{Rose}
 use Rattle.smt_solve.specs.Link.{AllowsTheSame, IsOver, LinkState}
@@ -7,7 +8,8 @@ use Rattle.smt_solve.specs.Question.{BeginsExchange, Exchanges, Spares, TellsToC
 use Rattle.smt_solve.specs.Session.{session_link, state_by}
 use Rattle.smt_solve.specs.Starter.{Command, StarterState, add_told, command_of}
 use Rattle.smt_solve.specs.declared.error.SolverError.{SolverError}
-use Rattle.smt_solve.specs.declared.error.SolverError.TheVariants.{Io, Solver as SolverSays, UnrecognizedSolverOutput, SolverMarkedFailed, AnswerTooLong, Memory as SolverWant}
+use Rattle.smt_solve.specs.declared.error.SolverError.TheVariants.{Io, Solver as SolverSays, UnrecognizedSolverOutput, SolverMarkedFailed}
+use Rattle.smt_solve.specs.declared.error.SolverError.TheVariants.{AnswerTooLong, Memory as SolverWant}
 use Rattle.smt_solve.specs.declared.session.LocalSolver.{LocalSolver}
 use Rattle.smt_pool.specs.Pooled.{pooled_failed, pooled_link, pooled_number, pooled_session, pooled_state}
 use Rattle.smt_pool.specs.Sessions.{AreUnused, IsAsked, IsClean, IsStarted, add_all}
@@ -57,7 +59,8 @@ pub record IsSamePool {L : Type 0} (old new : PoolState L) : Type 0 where
   pub same_command : new.command ≡ old.command
 
 -- A pool was just opened: all permits are free, and as many sessions as are to be at the start were started and are idle.
-pub record Opens {L : Type 0} (state : L → LinkState) (before : StarterState L) (config : SolverPoolConfig) (its_number : ℕ) (its_command : Command) (new : PoolState L) : Type 0 where
+pub record Opens {L : Type 0} (state : L → LinkState) (before : StarterState L) (config : SolverPoolConfig) (its_number : ℕ)
+    (its_command : Command) (new : PoolState L) : Type 0 where
   pub permits : new.permits ≡ config.max_solvers
   pub none_out : new.out ≡ 0
   pub max : new.max ≡ config.max_solvers
@@ -68,7 +71,8 @@ pub record Opens {L : Type 0} (state : L → LinkState) (before : StarterState L
   pub command : new.command ≡ its_command
 
 -- A solver did not start: the starter was asked once more than it gave links, on none of which a call was made, and all came back.
-pub record GivesAllBack {L : Type 0} (state : L → LinkState) (old new : StarterState L) (command : Command) (config : SolverPoolConfig) : Type 0 where
+pub record GivesAllBack {L : Type 0} (state : L → LinkState) (old new : StarterState L) (command : Command) (config : SolverPoolConfig) :
+    Type 0 where
   pub sessions : List (LocalSolver L)
   pub few : length sessions < config.min_solvers
   pub unused : AreUnused state sessions
@@ -112,7 +116,9 @@ pub record HandsOut {L : Type 0} (state : L → LinkState) (old new : PoolState 
 abbrev pub CauseNotAcquired : {L : Type 0} → (old new : PoolState L) → SolverPoolError → Type 0
 CauseNotAcquired old new SemaphoreClosed = ⊥
 CauseNotAcquired old new AcquireTimeout = (old.permits ≡ 0) × (new.starter ≡ old.starter)
-CauseNotAcquired old new (Solver error) = (error ≡ Io) × (old.idle ≡ []) × IsAsked old.starter new.starter old.command 1 × Rose old.starter.failed_starts new.starter.failed_starts
+CauseNotAcquired old new (Solver error) =
+    (error ≡ Io) × (old.idle ≡ []) × IsAsked old.starter new.starter old.command 1
+    × Rose old.starter.failed_starts new.starter.failed_starts
 CauseNotAcquired old new Memory = old.idle ≡ []
 
 -- No session is handed out, for the cause of this error. The sessions and permits are as before.
@@ -125,7 +131,8 @@ pub record WhyNotAcquired {L : Type 0} (old new : PoolState L) (error : SolverPo
 
 -- A pool keeps a session that came back and had not failed: it is sent `(reset)` (SMT-LIB 2.7, chapter 4) with its LF, and
 -- becomes the last idle one.
-pub record Keeps {L : Type 0} (state : L → LinkState) (allows : L → List ℕ → List ℕ → List ℕ → Type 0) (old new : PoolState L) (s : PooledSolver L) : Type 0 where
+pub record Keeps {L : Type 0} (state : L → LinkState) (allows : L → List ℕ → List ℕ → List ℕ → Type 0) (old new : PoolState L)
+    (s : PooledSolver L) : Type 0 where
   pub unfailed : pooled_failed s ≡ false
   pub session : LocalSolver L
   pub last : new.idle ≡ old.idle ++ session ∷ []

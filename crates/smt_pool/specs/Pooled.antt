@@ -33,6 +33,7 @@ pooled_state state s = state_by state (pooled_session s)
 
 -- A call on a session that was handed out does what it does on a session: one that has failed does nothing, and says so. The
 -- number of the pool stays.
-pub record Guards {L T : Type 0} (allows : L → List ℕ → List ℕ → List ℕ → Type 0) (old new : PooledSolver L) (result : Result T SolverError) : Type 0 where
+pub record Guards {L T : Type 0} (allows : L → List ℕ → List ℕ → List ℕ → Type 0) (old new : PooledSolver L) (result : Result T SolverError)
+    : Type 0 where
   pub session : SessionGuards allows (pooled_session old) (pooled_session new) result
   pub same_number : pooled_number new ≡ pooled_number old

@@ -1,5 +1,6 @@
 -- What is known of sessions that no caller holds, and how many of them are started and given back together.
-use Rattle.std.specs.Prelude.{ℕ, ◌-◌, ◌<◌, ◌≤◌, ◌≡◌, ◌≢◌, ◌⊎◌, ◌+◌, ⊤, Bool, false, List, [], ◌++◌, length, drop, replicate, All, IfErr, IfOk, IfSome, IsErrOf, IsOkUnless, OnErr, OnOk, Option, Result}
+use Rattle.std.specs.Prelude.{ℕ, ◌-◌, ◌<◌, ◌≤◌, ◌≡◌, ◌≢◌, ◌⊎◌, ◌+◌, ⊤, Bool, false, List, [], ◌++◌, length, drop, replicate, All, IfErr}
+use Rattle.std.specs.Prelude.{IfOk, IfSome, IsErrOf, IsOkUnless, OnErr, OnOk, Option, Result}
 use Rattle.std.specs.Option.{option_map}
 use Rattle.smt_script.specs.CommandTexts.{reset_text}
 use Rattle.smt_script.specs.Memory.{counted}
@@ -46,7 +47,8 @@ abbrev pub AreUnused : {L : Type 0} → (L → LinkState) → List (LocalSolver 
 AreUnused state sessions = All (IsStarted state) sessions
 
 -- The links of these sessions allow only lines that `allowed` allows.
-abbrev pub AreHonest : {L : Type 0} → (L → List ℕ → List ℕ → List ℕ → Type 0) → (List ℕ → List ℕ → List ℕ → Type 0) → List (LocalSolver L) → Type 0
+abbrev pub AreHonest : {L : Type 0} → (L → List ℕ → List ℕ → List ℕ → Type 0) → (List ℕ → List ℕ → List ℕ → Type 0) → List (LocalSolver L) →
+    Type 0
 AreHonest allows allowed sessions = All (λ s. AllowsOnly (allows (session_link s)) allowed) sessions
 
 -- a list that is told, with these members more at its end
@@ -68,7 +70,8 @@ WhyNotStarted old new command (Solver error) = (error ≡ Io) × IsAsked old new
 WhyNotStarted old new command PoolMemory = ⊤
 
 -- As many sessions as `count` are started by this command, or some of them where one did not start.
-pub record StartsMany {L T : Type 0} (old new : StarterState L) (command : Command) (count : ℕ) (sessions : List (LocalSolver L)) (result : Result T SolverError) : Type 0 where
+pub record StartsMany {L T : Type 0} (old new : StarterState L) (command : Command) (count : ℕ) (sessions : List (LocalSolver L))
+    (result : Result T SolverError) : Type 0 where
   pub ok : OnOk result (IsAsked old new command count × (length sessions ≡ count))
   pub io : IsErrOf result Io → IsAsked old new command (length sessions + 1) × Rose old.failed_starts new.failed_starts
   pub only : IfErr result (λ e. (e ≡ Io) ⊎ (e ≡ Memory))

@@ -28,9 +28,13 @@ pub fn ask_script<L: Link>(
     session: &mut LocalSolver<L>,
 ) -> Result<Decision, SolverError>
     ensures failed { session_failed session.new ≡ is_err result }
-    ensures refused { IfErr result (WhyUnanswered (session_failed session.old) (state_by L.state session.old) (state_by L.state session.new) script.now) }
-    ensures believed { (enums : Enums) (ts : List PlainTerm) → AreEnums enums → AreConditions enums ts → script.now ≡ text enums ts →
-        IsHonest (L.allows (session_link session.old)) → IsBlankLink (state_by L.state session.old) → IfOk result (λ decision. decision ≡ Decision.Unsat → AreNeverTrue enums ts) }
+    ensures refused { IfErr result (WhyUnanswered (session_failed session.old)
+        (state_by L.state session.old) (state_by L.state session.new) script.now) }
+    ensures believed { (enums : Enums) (ts : List PlainTerm) → AreEnums enums →
+        AreConditions enums ts → script.now ≡ text enums ts →
+        IsHonest (L.allows (session_link session.old)) →
+        IsBlankLink (state_by L.state session.old) →
+        IfOk result (λ decision. decision ≡ Decision.Unsat → AreNeverTrue enums ts) }
 {
     session.send_lines(b"(set-logic ALL)\n")?;
     session.send_lines(script)?;

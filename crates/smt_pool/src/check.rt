@@ -5,7 +5,8 @@ ghost use Rattle.smt_solve.specs.Question.{BeginsExchange, SendsCommand};
 ghost use Rattle.smt_solve.specs.Session.{session_failed, session_link, state_by};
 ghost use Rattle.smt_solve.specs.Starter.{command_of};
 ghost use Rattle.law_verdicts.specs.Verdicts.{question_of};
-ghost use Rattle.smt_pool.specs.Checks.{CannotSend, Decides, IsAnswered, Lengthens, WhyUnchecked, WhyUndecided, session_error};
+ghost use Rattle.smt_pool.specs.Checks.{CannotSend, Decides, IsAnswered, Lengthens, WhyUnchecked};
+ghost use Rattle.smt_pool.specs.Checks.{WhyUndecided, session_error};
 
 use crate::check_error::{CheckError, SessionFault};
 use smt_solve::{Decision, Link, LocalSolver, Solver, SolverCommand, SolverError, Starter};
@@ -32,14 +33,19 @@ pub(crate) fn error_of(error: SolverError) -> CheckError
 /// Sends lines to a session.
 pub(crate) fn send<L: Link>(session: &mut LocalSolver<L>, lines: &[u8]) -> Result<(), CheckError>
     requires { session_failed session.old ≡ false }
-    ensures sent { OnOk result (Lengthens (state_by L.state session.old) (state_by L.state session.new) lines.now) }
-    ensures exchanged { OnOk result (SendsCommand {T = Unit} (state_by L.state session.old) (state_by L.state session.new) lines.now (Ok tt)) }
-    ensures first_part { BeginsExchange (state_by L.state session.old) (state_by L.state session.new) lines.now }
+    ensures sent { OnOk result
+        (Lengthens (state_by L.state session.old) (state_by L.state session.new) lines.now) }
+    ensures exchanged { OnOk result (SendsCommand {T = Unit} (state_by L.state session.old)
+        (state_by L.state session.new) lines.now (Ok tt)) }
+    ensures first_part { BeginsExchange (state_by L.state session.old)
+        (state_by L.state session.new) lines.now }
     ensures unfailed { OnOk result (session_failed session.new ≡ false) }
     ensures failed { session_failed session.new ≡ is_err result }
-    ensures refused { IfErr result (CannotSend (state_by L.state session.old) (state_by L.state session.new)) }
+    ensures refused { IfErr result
+        (CannotSend (state_by L.state session.old) (state_by L.state session.new)) }
     ensures later { (state_by L.state session.old).faults ≤ (state_by L.state session.new).faults }
-    ensures allows { AllowsTheSame (L.allows (session_link session.old)) (L.allows (session_link session.new)) }
+    ensures allows { AllowsTheSame (L.allows (session_link session.old))
+        (L.allows (session_link session.new)) }
 {
     match session.send_lines(lines) {
         Ok(()) => Ok(()),
@@ -51,7 +57,8 @@ pub(crate) fn send<L: Link>(session: &mut LocalSolver<L>, lines: &[u8]) -> Resul
 fn decide<L: Link>(session: &mut LocalSolver<L>, script: &[u8]) -> Result<Decision, CheckError>
     requires unfailed { session_failed session.old ≡ false }
     requires unused { IsUnused (state_by L.state session.old) }
-    ensures decided { IfOk result (IsAnswered (L.allows (session_link session.old)) (state_by L.state session.new) (question_of script.now)) }
+    ensures decided { IfOk result (IsAnswered (L.allows (session_link session.old))
+        (state_by L.state session.new) (question_of script.now)) }
     ensures refused { IfErr result (WhyUndecided (state_by L.state session.new) script.now) }
 {
     send(session, b"(set-logic ALL)\n")?;
@@ -83,7 +90,8 @@ fn decide<L: Link>(session: &mut LocalSolver<L>, script: &[u8]) -> Result<Decisi
 ///
 /// `Start` comes where the solver did not start, which the starter's count of failed starts shows. `Session` comes where the
 /// session failed, by the cause of its kind on the link that came back, which was killed only for what it answered; where the
-/// link failed, the starter's count of link faults shows it. `Memory` comes where there is no memory for the session, for its answer or for the link's return; the link may be
+/// link failed, the starter's count of link faults shows it. `Memory` comes where there is no memory for the session, for its answer or for
+/// the link's return; the link may be
 /// lost then.
 pub fn check_script<P: Starter>(
     alloc: Global,
@@ -91,8 +99,10 @@ pub fn check_script<P: Starter>(
     solver: &SolverCommand,
     starter: &mut P,
 ) -> Result<Decision, CheckError>
-    ensures decided { IfOk result (Decides P.L.state (P.allows starter.old) (P.state starter.old) (P.state starter.new) (command_of solver.now) script.now) }
-    ensures refused { IfErr result (WhyUnchecked P.L.state (P.state starter.old) (P.state starter.new) (command_of solver.now) script.now) }
+    ensures decided { IfOk result (Decides P.L.state (P.allows starter.old) (P.state starter.old)
+        (P.state starter.new) (command_of solver.now) script.now) }
+    ensures refused { IfErr result (WhyUnchecked P.L.state (P.state starter.old)
+        (P.state starter.new) (command_of solver.now) script.now) }
     ensures allows { AllowsTheSame (P.allows starter.old) (P.allows starter.new) }
 {
     let mut session = match LocalSolver::from_command(alloc, starter, solver) {

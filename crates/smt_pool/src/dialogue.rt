@@ -7,7 +7,8 @@ ghost use Rattle.smt_solve.specs.Session.{session_failed, session_link, state_by
 ghost use Rattle.law_verdicts.specs.Dialogues.{AnsweredCheck, GaveAllowed, HasAnswered};
 ghost use Rattle.law_verdicts.specs.Verdicts.{logic_text};
 ghost use Rattle.smt_pool.specs.Checks.{CannotSend};
-ghost use Rattle.smt_pool.specs.Dialogue.{AnswersNext, RefusesNext, StaysAllowed, TakesMore, WhyUnsent};
+ghost use Rattle.smt_pool.specs.Dialogue.{AnswersNext, RefusesNext, StaysAllowed, TakesMore};
+ghost use Rattle.smt_pool.specs.Dialogue.{WhyUnsent};
 
 use crate::check::{error_of, send};
 use crate::check_error::CheckError;
@@ -41,13 +42,17 @@ pub fn begin_dialogue<L: Link>(session: &mut LocalSolver<L>) -> Result<(), Check
     requires unfailed { session_failed session.old ≡ false }
     requires unused { IsUnused (state_by L.state session.old) }
     ensures begun { OnOk result (HasAnswered (state_by L.state session.new) [] []) }
-    ensures allowed { OnOk result (GaveAllowed (L.allows (session_link session.old)) (state_by L.state session.new) []) }
-    ensures refused { IfErr result (CannotSend (state_by L.state session.old) (state_by L.state session.new)) }
+    ensures allowed { OnOk result
+        (GaveAllowed (L.allows (session_link session.old)) (state_by L.state session.new) []) }
+    ensures refused { IfErr result
+        (CannotSend (state_by L.state session.old) (state_by L.state session.new)) }
     ensures unsent { IfErr result (WhyUnsent (state_by L.state session.new)) }
-    ensures first_part { BeginsExchange (state_by L.state session.old) (state_by L.state session.new) logic_text }
+    ensures first_part { BeginsExchange (state_by L.state session.old)
+        (state_by L.state session.new) logic_text }
     ensures failed { session_failed session.new ≡ is_err result }
     ensures later { (state_by L.state session.old).faults ≤ (state_by L.state session.new).faults }
-    ensures allows { AllowsTheSame (L.allows (session_link session.old)) (L.allows (session_link session.new)) }
+    ensures allows { AllowsTheSame (L.allows (session_link session.old))
+        (L.allows (session_link session.new)) }
 {
     send(session, b"(set-logic ALL)\n")
 }
@@ -72,14 +77,21 @@ pub fn begin_dialogue<L: Link>(session: &mut LocalSolver<L>) -> Result<(), Check
 /// As those of `begin_dialogue`, where a first part of these lines was sent.
 pub fn send_more<L: Link>(session: &mut LocalSolver<L>, lines: &[u8]) -> Result<(), CheckError>
     requires unfailed { session_failed session.old ≡ false }
-    ensures sent { OnOk result (TakesMore (state_by L.state session.old) (state_by L.state session.new) lines.now) }
-    ensures allowed { OnOk result (StaysAllowed (L.allows (session_link session.old)) (state_by L.state session.old) (state_by L.state session.new)) }
-    ensures refused { IfErr result (CannotSend (state_by L.state session.old) (state_by L.state session.new)) }
-    ensures unsent { (checks : List AnsweredCheck) (rest : List ℕ) → HasAnswered (state_by L.state session.old) checks rest → IfErr result (WhyUnsent (state_by L.state session.new)) }
-    ensures first_part { BeginsExchange (state_by L.state session.old) (state_by L.state session.new) lines.now }
+    ensures sent { OnOk result
+        (TakesMore (state_by L.state session.old) (state_by L.state session.new) lines.now) }
+    ensures allowed { OnOk result (StaysAllowed (L.allows (session_link session.old))
+        (state_by L.state session.old) (state_by L.state session.new)) }
+    ensures refused { IfErr result
+        (CannotSend (state_by L.state session.old) (state_by L.state session.new)) }
+    ensures unsent { (checks : List AnsweredCheck) (rest : List ℕ) →
+        HasAnswered (state_by L.state session.old) checks rest →
+        IfErr result (WhyUnsent (state_by L.state session.new)) }
+    ensures first_part { BeginsExchange (state_by L.state session.old)
+        (state_by L.state session.new) lines.now }
     ensures failed { session_failed session.new ≡ is_err result }
     ensures later { (state_by L.state session.old).faults ≤ (state_by L.state session.new).faults }
-    ensures allows { AllowsTheSame (L.allows (session_link session.old)) (L.allows (session_link session.new)) }
+    ensures allows { AllowsTheSame (L.allows (session_link session.old))
+        (L.allows (session_link session.new)) }
 {
     send(session, lines)
 }
@@ -115,12 +127,16 @@ pub fn ask_behind<L: Link>(
     lines: &[u8],
 ) -> Result<Decision, CheckError>
     requires unfailed { session_failed session.old ≡ false }
-    ensures answered { IfOk result (AnswersNext (L.allows (session_link session.old)) (state_by L.state session.old) (state_by L.state session.new) lines.now) }
-    ensures refused { IfErr result (RefusesNext (state_by L.state session.old) (state_by L.state session.new) lines.now) }
-    ensures first_part { BeginsExchange (state_by L.state session.old) (state_by L.state session.new) (lines.now ++ check_sat_text) }
+    ensures answered { IfOk result (AnswersNext (L.allows (session_link session.old))
+        (state_by L.state session.old) (state_by L.state session.new) lines.now) }
+    ensures refused { IfErr result
+        (RefusesNext (state_by L.state session.old) (state_by L.state session.new) lines.now) }
+    ensures first_part { BeginsExchange (state_by L.state session.old)
+        (state_by L.state session.new) (lines.now ++ check_sat_text) }
     ensures failed { session_failed session.new ≡ is_err result }
     ensures later { (state_by L.state session.old).faults ≤ (state_by L.state session.new).faults }
-    ensures allows { AllowsTheSame (L.allows (session_link session.old)) (L.allows (session_link session.new)) }
+    ensures allows { AllowsTheSame (L.allows (session_link session.old))
+        (L.allows (session_link session.new)) }
 {
     send(session, lines)?;
     match session.check_sat() {

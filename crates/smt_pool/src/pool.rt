@@ -18,7 +18,8 @@ use std::collections::VecDeque;
 ///
 /// It hands sessions out, takes them back, and keeps those that did not fail for the next caller. So its solvers live long: the
 /// command gets a limit on each question, as cvc5's `--tlimit-per`, and none on the life of the process, as cvc5's `--tlimit`. A
-/// session that is out holds a permit, so that the permits that are free and the sessions that are out are always `max_solvers` together. It is ended by
+/// session that is out holds a permit, so that the permits that are free and the sessions that are out are always `max_solvers` together.
+/// It is ended by
 /// `close`, which gives its starter back.
 #[derive(Debug, Drop)]
 pub struct SolverPool<P: Starter> {
@@ -38,12 +39,15 @@ pub struct SolverPool<P: Starter> {
 }
 
 impl<P: Starter> SolverPool<P> {
-    ghost use Rattle.std.specs.Prelude.{◌≡◌, ◌<◌, ◌↔◌, true, false, [], length, IfErr, IfOk, IsErrOf};
+    ghost use Rattle.std.specs.Prelude.{◌≡◌, ◌<◌, ◌↔◌, true, false, [], length, IfErr, IfOk};
+    ghost use Rattle.std.specs.Prelude.{IsErrOf};
     ghost use Rattle.smt_solve.specs.Link.{AllowsOnly, AllowsTheSame};
     ghost use Rattle.smt_solve.specs.Starter.{command_of};
     ghost use Rattle.smt_pool.specs.Pooled.{pooled_link, pooled_number};
     ghost use Rattle.smt_pool.specs.Sessions.{AreHonest};
-    ghost use Rattle.smt_pool.specs.Pool.{GivesUp, HandsOut, Keeps, Opens, TakesBack, WhyNotOpened, WhyNotAcquired, pool_starter, pool_state};
+    ghost use Rattle.smt_pool.specs.Pool.{GivesUp, HandsOut, Keeps, Opens, TakesBack, WhyNotOpened};
+    ghost use Rattle.smt_pool.specs.Pool.{WhyNotAcquired, pool_starter};
+    ghost use Rattle.smt_pool.specs.Pool.{pool_state};
 
     /// A pool of this number, whose sessions this command starts.
     ///
@@ -61,13 +65,18 @@ impl<P: Starter> SolverPool<P> {
         command: SolverCommand,
         mut starter: P,
     ) -> Result<SolverPool<P>, PoolRefused<P>>
-        ensures opens { IfOk result
-            (λ pool. Opens P.L.state (P.state starter) config number (command_of command) (pool_state P.state pool)) }
-        ensures refused { IfErr result
-            (λ r. WhyNotOpened P.L.state (P.state starter) (P.state r.starter) config (command_of command) r.error) }
-        ensures honest { IfOk result (λ pool. AreHonest P.L.allows (P.allows starter) (pool_state P.state pool).idle) }
-        ensures allows { IfOk result (λ pool. AllowsTheSame (P.allows starter) (P.allows (pool_starter pool))) }
-        ensures allows_still { IfErr result (λ r. AllowsTheSame (P.allows starter) (P.allows r.starter)) }
+        ensures opens { IfOk result (λ pool.
+            Opens P.L.state (P.state starter) config number (command_of command)
+            (pool_state P.state pool)) }
+        ensures refused { IfErr result (λ r.
+            WhyNotOpened P.L.state (P.state starter) (P.state r.starter) config (command_of command)
+            r.error) }
+        ensures honest { IfOk result
+            (λ pool. AreHonest P.L.allows (P.allows starter) (pool_state P.state pool).idle) }
+        ensures allows { IfOk result
+            (λ pool. AllowsTheSame (P.allows starter) (P.allows (pool_starter pool))) }
+        ensures allows_still { IfErr result
+            (λ r. AllowsTheSame (P.allows starter) (P.allows r.starter)) }
     {
         let room = config.min_solvers.max(config.max_solvers);
         let Ok(mut idle) = VecDeque::with_capacity(alloc, room) else {
@@ -116,7 +125,8 @@ impl<P: Starter> SolverPool<P> {
     /// Together with the sessions that are out they are as many as `max_solvers`.
     pub fn permits_available(&self) -> usize
         ensures permits { result ≡ (pool_state P.state self.now).permits }
-        ensures sum { (pool_state P.state self.now).permits + (pool_state P.state self.now).out ≡ (pool_state P.state self.now).max }
+        ensures sum { (pool_state P.state self.now).permits + (pool_state P.state self.now).out
+            ≡ (pool_state P.state self.now).max }
     {
         self.permits
     }
@@ -147,12 +157,16 @@ impl<P: Starter> SolverPool<P> {
     /// a new session did not start, which the starter's count of failed starts shows, and `Memory` where there is no memory for a
     /// new session. No error takes a permit.
     pub fn acquire(&mut self) -> Result<PooledSolver<P::L>, SolverPoolError>
-        ensures acquired { IfOk result (HandsOut P.L.state (pool_state P.state self.old) (pool_state P.state self.new)) }
-        ensures timeout { IsErrOf result SolverPoolError.AcquireTimeout ↔ ((pool_state P.state self.old).permits ≡ 0) }
-        ensures refused { IfErr result (WhyNotAcquired (pool_state P.state self.old) (pool_state P.state self.new)) }
+        ensures acquired { IfOk result
+            (HandsOut P.L.state (pool_state P.state self.old) (pool_state P.state self.new)) }
+        ensures timeout { IsErrOf result SolverPoolError.AcquireTimeout
+            ↔ ((pool_state P.state self.old).permits ≡ 0) }
+        ensures refused { IfErr result
+            (WhyNotAcquired (pool_state P.state self.old) (pool_state P.state self.new)) }
         ensures honest { IfOk result (λ s. (pool_state P.state self.old).idle ≡ [] →
             AllowsOnly (P.L.allows (pooled_link s)) (P.allows (pool_starter self.old))) }
-        ensures allows { AllowsTheSame (P.allows (pool_starter self.old)) (P.allows (pool_starter self.new)) }
+        ensures allows { AllowsTheSame (P.allows (pool_starter self.old))
+            (P.allows (pool_starter self.new)) }
     {
         if self.permits == 0 {
             return Err(SolverPoolError::AcquireTimeout);
@@ -181,10 +195,15 @@ impl<P: Starter> SolverPool<P> {
     pub fn release(&mut self, s: PooledSolver<P::L>) -> Result<bool, SolverPoolError>
         requires number { pooled_number s ≡ (pool_state P.state self.old).number }
         requires out { (pool_state P.state self.old).permits < (pool_state P.state self.old).max }
-        ensures kept { result ≡ Ok true → Keeps P.L.state P.L.allows (pool_state P.state self.old) (pool_state P.state self.new) s }
-        ensures not_kept { result ≡ Ok false → GivesUp P.L.state (pool_state P.state self.old) (pool_state P.state self.new) s }
-        ensures takes_back { TakesBack (pool_state P.state self.old) (pool_state P.state self.new) result }
-        ensures allows { AllowsTheSame (P.allows (pool_starter self.old)) (P.allows (pool_starter self.new)) }
+        ensures kept { result ≡ Ok true →
+            Keeps P.L.state P.L.allows (pool_state P.state self.old) (pool_state P.state self.new)
+            s }
+        ensures not_kept { result ≡ Ok false →
+            GivesUp P.L.state (pool_state P.state self.old) (pool_state P.state self.new) s }
+        ensures takes_back { TakesBack (pool_state P.state self.old) (pool_state P.state self.new)
+            result }
+        ensures allows { AllowsTheSame (P.allows (pool_starter self.old))
+            (P.allows (pool_starter self.new)) }
     {
         let PooledSolver {
             mut session,
@@ -221,8 +240,10 @@ impl<P: Starter + Drop> SolverPool<P> {
     /// `Memory` comes where the starter has no memory for a link. The starter is dropped then, with the links.
     pub fn close(self) -> Result<P, SolverPoolError>
         requires { (pool_state P.state self).permits ≡ (pool_state P.state self).max }
-        ensures closes { IfOk result (λ starter. Closes (pool_state P.state self) (P.state starter)) }
-        ensures allows { IfOk result (λ starter. AllowsTheSame (P.allows (pool_starter self)) (P.allows starter)) }
+        ensures closes { IfOk result
+            (λ starter. Closes (pool_state P.state self) (P.state starter)) }
+        ensures allows { IfOk result
+            (λ starter. AllowsTheSame (P.allows (pool_starter self)) (P.allows starter)) }
         ensures refusal { IsOkUnless result SolverPoolError.Memory }
     {
         let SolverPool {

@@ -6,7 +6,8 @@ ghost use Rattle.smt_solve.specs.Model.{AsksWithModel};
 ghost use Rattle.smt_solve.specs.Question.{AsksDecision, SendsCommand};
 ghost use Rattle.smt_solve.specs.Session.{enable_models_text};
 ghost use Rattle.smt_pool.specs.Lends.{LendsInput};
-ghost use Rattle.smt_pool.specs.Pooled.{Guards, pooled_failed, pooled_input, pooled_link, pooled_number, pooled_state};
+ghost use Rattle.smt_pool.specs.Pooled.{Guards, pooled_failed, pooled_input, pooled_link};
+ghost use Rattle.smt_pool.specs.Pooled.{pooled_number, pooled_state};
 
 use smt_solve::{
     Decision, DecisionWithModel, Link, LocalSolver, SessionInput, Solver, SolverError,
@@ -60,7 +61,8 @@ impl<L: Link> PooledSolver<L> {
     pub fn send_lines(&mut self, lines: &[u8]) -> Result<(), SolverError>
         ensures guards { Guards L.allows self.old self.new result }
         ensures sends { pooled_failed self.old ≡ false →
-            SendsCommand (pooled_state L.state self.old) (pooled_state L.state self.new) lines.now result }
+            SendsCommand (pooled_state L.state self.old) (pooled_state L.state self.new) lines.now
+            result }
     {
         self.session.send_lines(lines)
     }
@@ -92,7 +94,8 @@ impl<L: Link> Solver for PooledSolver<L> {
     fn enable_models(&mut self) -> Result<(), SolverError>
         ensures guards { Guards L.allows self.old self.new result }
         ensures sends { pooled_failed self.old ≡ false →
-            SendsCommand (pooled_state L.state self.old) (pooled_state L.state self.new) enable_models_text result }
+            SendsCommand (pooled_state L.state self.old) (pooled_state L.state self.new)
+            enable_models_text result }
     {
         self.session.enable_models()
     }
@@ -106,7 +109,8 @@ impl<L: Link> Solver for PooledSolver<L> {
     fn check_sat(&mut self) -> Result<Decision, SolverError>
         ensures guards { Guards L.allows self.old self.new result }
         ensures asks { pooled_failed self.old ≡ false →
-            AsksDecision (L.allows (pooled_link self.old)) (pooled_state L.state self.old) (pooled_state L.state self.new) result }
+            AsksDecision (L.allows (pooled_link self.old)) (pooled_state L.state self.old)
+            (pooled_state L.state self.new) result }
         ensures over { IsOver (pooled_state L.state self.old) → IsErr result }
     {
         self.session.check_sat()
@@ -121,7 +125,8 @@ impl<L: Link> Solver for PooledSolver<L> {
     fn check_sat_with_model(&mut self) -> Result<DecisionWithModel, SolverError>
         ensures guards { Guards L.allows self.old self.new result }
         ensures asks { pooled_failed self.old ≡ false →
-            AsksWithModel (L.allows (pooled_link self.old)) (pooled_state L.state self.old) (pooled_state L.state self.new) result }
+            AsksWithModel (L.allows (pooled_link self.old)) (pooled_state L.state self.old)
+            (pooled_state L.state self.new) result }
         ensures over { IsOver (pooled_state L.state self.old) → IsErr result }
     {
         self.session.check_sat_with_model()

@@ -4,7 +4,9 @@ ghost use Rattle.std.specs.VecDeque.{deque_capacity};
 ghost use Rattle.smt_solve.specs.Link.{AllowsOnly, AllowsTheSame};
 ghost use Rattle.smt_solve.specs.Session.{session_failed, session_link, state_by};
 ghost use Rattle.smt_solve.specs.Starter.{command_of};
-ghost use Rattle.smt_pool.specs.Sessions.{AreHonest, AreUnused, FinishesAll, FinishesOne, IsAsked, IsStarted, Resets, StartsMany, WhyNotStarted};
+ghost use Rattle.smt_pool.specs.Sessions.{AreHonest, AreUnused, FinishesAll, FinishesOne, IsAsked};
+ghost use Rattle.smt_pool.specs.Sessions.{IsStarted, Resets, StartsMany};
+ghost use Rattle.smt_pool.specs.Sessions.{WhyNotStarted};
 
 use crate::error::SolverPoolError;
 use smt_solve::{Link, LinkError, LocalSolver, SolverCommand, SolverError, StartError, Starter};
@@ -17,10 +19,13 @@ pub(crate) fn start_session<P: Starter>(
     starter: &mut P,
     command: &SolverCommand,
 ) -> Result<LocalSolver<P::L>, SolverPoolError>
-    ensures asked { IfOk result (λ s. IsAsked (P.state starter.old) (P.state starter.new) (command_of command.now) 1) }
+    ensures asked { IfOk result
+        (λ s. IsAsked (P.state starter.old) (P.state starter.new) (command_of command.now) 1) }
     ensures started { IfOk result (IsStarted P.L.state) }
-    ensures honest { IfOk result (λ s. AllowsOnly (P.L.allows (session_link s)) (P.allows starter.old)) }
-    ensures refused { IfErr result (WhyNotStarted (P.state starter.old) (P.state starter.new) (command_of command.now)) }
+    ensures honest { IfOk result
+        (λ s. AllowsOnly (P.L.allows (session_link s)) (P.allows starter.old)) }
+    ensures refused { IfErr result
+        (WhyNotStarted (P.state starter.old) (P.state starter.new) (command_of command.now)) }
     ensures allows { AllowsTheSame (P.allows starter.old) (P.allows starter.new) }
 {
     match LocalSolver::from_command(alloc, starter, command) {
@@ -35,8 +40,8 @@ pub(crate) fn finish_session<P: Starter>(
     starter: &mut P,
     session: LocalSolver<P::L>,
 ) -> Result<bool, SolverPoolError>
-    ensures finishes { FinishesOne (P.state starter.old) (P.state starter.new) (session_link session)
-        (state_by P.L.state session).faults result }
+    ensures finishes { FinishesOne (P.state starter.old) (P.state starter.new)
+        (session_link session) (state_by P.L.state session).faults result }
     ensures allows { AllowsTheSame (P.allows starter.old) (P.allows starter.new) }
 {
     match starter.finish(session.into_link()) {
@@ -49,7 +54,8 @@ pub(crate) fn finish_session<P: Starter>(
 pub(crate) fn reset_session<L: Link>(session: &mut LocalSolver<L>) -> Result<(), LinkError>
     requires { session_failed session.old ≡ false }
     ensures resets { Resets L.state session.old session.new result }
-    ensures allows { AllowsTheSame (L.allows (session_link session.old)) (L.allows (session_link session.new)) }
+    ensures allows { AllowsTheSame (L.allows (session_link session.old))
+        (L.allows (session_link session.new)) }
 {
     match session.send_lines(b"(reset)\n") {
         Ok(()) => Ok(()),
@@ -68,7 +74,8 @@ pub(crate) fn start_sessions<P: Starter>(
 ) -> Result<(), SolverError>
     requires empty { sessions.old.items ≡ [] }
     requires room { count ≤ deque_capacity sessions.old }
-    ensures starts { StartsMany (P.state starter.old) (P.state starter.new) (command_of command.now) count sessions.new.items result }
+    ensures starts { StartsMany (P.state starter.old) (P.state starter.new) (command_of command.now)
+        count sessions.new.items result }
     ensures unused { AreUnused P.L.state sessions.new.items }
     ensures honest { AreHonest P.L.allows (P.allows starter.old) sessions.new.items }
     ensures allows { AllowsTheSame (P.allows starter.old) (P.allows starter.new) }
@@ -86,7 +93,8 @@ pub(crate) fn finish_sessions<P: Starter>(
     starter: &mut P,
     mut sessions: VecDeque<LocalSolver<P::L>>,
 ) -> Result<(), StartError>
-    ensures finishes { FinishesAll (P.state starter.old) (P.state starter.new) (map session_link sessions.items) result }
+    ensures finishes { FinishesAll (P.state starter.old) (P.state starter.new)
+        (map session_link sessions.items) result }
     ensures allows { AllowsTheSame (P.allows starter.old) (P.allows starter.new) }
 {
     let mut done = Ok(());

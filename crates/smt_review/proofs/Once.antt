@@ -5,8 +5,8 @@ use Rattle.law_terms.specs.Formed.{IsFormed}
 use Rattle.law_terms.specs.Plain.{BoolType, PlainTerm}
 use Rattle.law_terms.specs.Typing.{Typed}
 use Rattle.law_terms.specs.TypeValues.{Enums, AreEnums}
-use Rattle.smt_types.specs.Entities.{bytes_of_id, bytes_of_type}
-use Rattle.smt_types.specs.PatternView.{plain_ord_pattern}
+use Rattle.smt_term.specs.Entities.{bytes_of_id, bytes_of_type}
+use Rattle.smt_term.specs.PatternView.{plain_ord_pattern}
 use Rattle.std.specs.Rc.{rc_str_bytes}
 use Rattle.smt_script.specs.CommandTexts.{reset_text}
 use Rattle.smt_script.specs.Sink.{Rose}

@@ -31,11 +31,16 @@ truth_in I t = truth (term_value I t)
 
 -- The relation holds of the values of the terms in every interpretation of both.
 abbrev pub AreRelated : Enums → Relation → PlainTerm → PlainTerm → Type 0
-AreRelated enums relation t u = (I : Interpretation) → IsInterpretation enums (t ∷ u ∷ []) I → related relation (truth_in I t) (truth_in I u) ≡ true
+AreRelated enums relation t u =
+    (I : Interpretation) → IsInterpretation enums (t ∷ u ∷ []) I → related relation (truth_in I t) (truth_in I u) ≡ true
 
 -- What the folded difference of Boolean terms tells. It is Boolean, and where no interpretation makes it true, the relation holds of
 -- the terms.
 pub record DifferencesTell : Type 0 where
-  pub boolean : (relation : Relation) (t u : PlainTerm) → Typed t BoolType → Typed u BoolType → Typed (difference_by folding relation t u) BoolType
+  pub boolean : (relation : Relation) (t u : PlainTerm) → Typed t BoolType → Typed u BoolType →
+      Typed (difference_by folding relation t u) BoolType
   pub told : (enums : Enums) (relation : Relation) (t u : PlainTerm) → Typed t BoolType → Typed u BoolType → IsFormed t → IsFormed u
-      → ((I : Interpretation) → IsInterpretation enums (difference_by folding relation t u ∷ []) I → AreTrue I (difference_by folding relation t u ∷ []) → ⊥) → AreRelated enums relation t u
+      →
+      ((I : Interpretation) → IsInterpretation enums (difference_by folding relation t u ∷ []) I →
+      AreTrue I (difference_by folding relation t u ∷ []) → ⊥)
+      → AreRelated enums relation t u

@@ -34,9 +34,11 @@ pub record AnswersOnce (allows : List ℕ → List ℕ → List ℕ → Type 0) 
   pub reset : IsResetAfter asked now
 
 module _ {L : Type 0} (state : L → LinkState) (enums : Enums) (relation : Relation) (t u : PlainTerm) where
-  -- A link was started, which allows only what its starter did. It was sent `(set-logic ALL)`, the text of the difference, `(check-sat)` and
+  -- A link was started, which allows only what its starter did. It was sent `(set-logic ALL)`, the text of the difference, `(check-sat)`
+  -- and
   -- `(reset)`, and answered by the one line that says this finding.
-  pub record IsReviewedBy (allows : L → List ℕ → List ℕ → List ℕ → Type 0) (allowed : List ℕ → List ℕ → List ℕ → Type 0) (finding : Finding) (link : L) : Type 0 where
+  pub record IsReviewedBy (allows : L → List ℕ → List ℕ → List ℕ → Type 0) (allowed : List ℕ → List ℕ → List ℕ → Type 0) (finding : Finding)
+      (link : L) : Type 0 where
     pub began : L
     pub unused : IsUnused (state began)
     pub only : AllowsOnly (allows began) allowed
@@ -60,18 +62,25 @@ module _ {L : Type 0} (state : L → LinkState) (enums : Enums) (relation : Rela
     pub rose : 0 < (state link).faults → shown
 
 -- A solver was started by this command, this was found of the relation by its one line, and its link came back.
-abbrev pub ReviewsOnce : {L : Type 0} → (L → LinkState) → (L → List ℕ → List ℕ → List ℕ → Type 0) → (allowed : List ℕ → List ℕ → List ℕ → Type 0) → (old new : StarterState L) → SolverCall → Enums → Relation → (t u : PlainTerm) → Finding → Type 0
-ReviewsOnce state allows allowed old new call enums relation t u finding = Returns (IsReviewedBy state enums relation t u allows allowed finding) old new call
+abbrev pub ReviewsOnce : {L : Type 0} → (L → LinkState) → (L → List ℕ → List ℕ → List ℕ → Type 0) →
+    (allowed : List ℕ → List ℕ → List ℕ → Type 0) → (old new : StarterState L) → SolverCall → Enums → Relation → (t u : PlainTerm) →
+    Finding → Type 0
+ReviewsOnce state allows allowed old new call enums relation t u finding =
+    Returns (IsReviewedBy state enums relation t u allows allowed finding) old new call
 
--- Why nothing was found: the difference has a first fault of this kind, the solver did not start, its session failed, or there was no memory.
+-- Why nothing was found: the difference has a first fault of this kind, the solver did not start, its session failed, or there was no
+-- memory.
 -- Where a solver was started its link came back.
-abbrev pub WhyNotReviewedOnce : {L : Type 0} → (L → LinkState) → (old new : StarterState L) → SolverCall → Enums → Relation → (t u : PlainTerm) → Refusal → Type 0
+abbrev pub WhyNotReviewedOnce : {L : Type 0} → (L → LinkState) → (old new : StarterState L) → SolverCall → Enums → Relation →
+    (t u : PlainTerm) → Refusal → Type 0
 WhyNotReviewedOnce state old new call enums relation t u Usage = ⊥
 WhyNotReviewedOnce state old new call enums relation t u (Job kind) = ⊥
 WhyNotReviewedOnce state old new call enums relation t u NotTwo = ⊥
-WhyNotReviewedOnce state old new call enums relation t u (Encode kind) = IsFaultOf kind (first_fault enums (difference_of relation t u ∷ [])) × Returns (IsNotAskedBy state enums relation t u) old new call
+WhyNotReviewedOnce state old new call enums relation t u (Encode kind) =
+    IsFaultOf kind (first_fault enums (difference_of relation t u ∷ [])) × Returns (IsNotAskedBy state enums relation t u) old new call
 WhyNotReviewedOnce state old new call enums relation t u Source = ⊥
 WhyNotReviewedOnce state old new call enums relation t u Sink = ⊥
 WhyNotReviewedOnce state old new call enums relation t u Start = Rose old.failed_starts new.failed_starts
-WhyNotReviewedOnce state old new call enums relation t u (Session kind) = Returns (FailsReview state enums relation t u (Rose old.link_faults new.link_faults) kind) old new call
+WhyNotReviewedOnce state old new call enums relation t u (Session kind) =
+    Returns (FailsReview state enums relation t u (Rose old.link_faults new.link_faults) kind) old new call
 WhyNotReviewedOnce state old new call enums relation t u Memory = ⊤

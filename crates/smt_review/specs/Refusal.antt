@@ -1,7 +1,9 @@
 -- What is said of a refusal, and which refusal an error becomes.
 use Rattle.std.specs.Prelude.{ℕ, List, codes}
 use Rattle.smt_encode.specs.declared.error.EncodeError.{EncodeError}
-use Rattle.smt_encode.specs.declared.error.EncodeError.TheVariants.{EmptyEnum as EnumRefused, EncodeStringFailed as StringRefused, EncodePatternFailed as PatternRefused, EnumMissingMember as EntityRefused}
+use Rattle.smt_encode.specs.declared.error.EncodeError.TheVariants.{EmptyEnum as EnumRefused, EncodeStringFailed as StringRefused}
+use Rattle.smt_encode.specs.declared.error.EncodeError.TheVariants.{EncodePatternFailed as PatternRefused}
+use Rattle.smt_encode.specs.declared.error.EncodeError.TheVariants.{EnumMissingMember as EntityRefused}
 use Rattle.smt_pool.specs.declared.check_error.SessionFault.TheVariants.{Io, Solver, UnrecognizedSolverOutput, AnswerTooLong}
 use Rattle.smt_runs.specs.Refusal.{encode_line, job_line}
 use Rattle.smt_runs.specs.declared.refusal.EncodeRefusal.TheVariants.{EmptyEnum, EncodeStringFailed, EncodePatternFailed, EnumMissingMember}
@@ -10,9 +12,12 @@ use Rattle.smt_runs.specs.declared.refusal.ReadRefusal.TheVariants.{Job as ReadJ
 use Rattle.smt_script.specs.declared.sink.SinkError.{SinkError}
 use Rattle.smt_script.specs.declared.sink.SinkError.TheVariants.{Fault as SinkFault, Memory as SinkWant}
 use Rattle.smt_solve.specs.declared.error.SolverError.{SolverError}
-use Rattle.smt_solve.specs.declared.error.SolverError.TheVariants.{Io as IoError, Solver as SolverSays, UnrecognizedSolverOutput as OtherOutput, SolverMarkedFailed, AnswerTooLong as TooLongAnswer, Memory as SolverWant}
+use Rattle.smt_solve.specs.declared.error.SolverError.TheVariants.{Io as IoError, Solver as SolverSays}
+use Rattle.smt_solve.specs.declared.error.SolverError.TheVariants.{UnrecognizedSolverOutput as OtherOutput, SolverMarkedFailed}
+use Rattle.smt_solve.specs.declared.error.SolverError.TheVariants.{AnswerTooLong as TooLongAnswer, Memory as SolverWant}
 use Rattle.smt_review.specs.declared.error.ReviewError.{ReviewError}
-use Rattle.smt_review.specs.declared.error.ReviewError.TheVariants.{Encode as ReviewEncode, Pool as ReviewPool, Solver as ReviewSolver, Memory as ReviewWant}
+use Rattle.smt_review.specs.declared.error.ReviewError.TheVariants.{Encode as ReviewEncode, Pool as ReviewPool, Solver as ReviewSolver}
+use Rattle.smt_review.specs.declared.error.ReviewError.TheVariants.{Memory as ReviewWant}
 use Rattle.smt_review.specs.declared.refusal.Refusal.{Refusal}
 use Rattle.smt_review.specs.declared.refusal.Refusal.TheVariants.{Usage, Job, NotTwo, Encode, Source, Sink, Start, Session, Memory}
 

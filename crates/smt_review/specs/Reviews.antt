@@ -8,10 +8,12 @@ use Rattle.law_folding.specs.Builder.{folding}
 use Rattle.law_lines.specs.Text.{text}
 use Rattle.law_theorem.specs.Conditions.{AreConditions}
 use Rattle.smt_script.specs.Sink.{Rose}
-use Rattle.smt_types.specs.Entities.{bytes_of_id, bytes_of_type}
-use Rattle.smt_types.specs.PatternView.{plain_ord_pattern}
+use Rattle.smt_term.specs.Entities.{bytes_of_id, bytes_of_type}
+use Rattle.smt_term.specs.PatternView.{plain_ord_pattern}
 use Rattle.smt_encode.specs.declared.error.EncodeError.{EncodeError}
-use Rattle.smt_encode.specs.declared.error.EncodeError.TheVariants.{EmptyEnum as EnumRefused, EncodeStringFailed as StringRefused, EncodePatternFailed as PatternRefused, EnumMissingMember as EntityRefused}
+use Rattle.smt_encode.specs.declared.error.EncodeError.TheVariants.{EmptyEnum as EnumRefused, EncodeStringFailed as StringRefused}
+use Rattle.smt_encode.specs.declared.error.EncodeError.TheVariants.{EncodePatternFailed as PatternRefused}
+use Rattle.smt_encode.specs.declared.error.EncodeError.TheVariants.{EnumMissingMember as EntityRefused}
 use Rattle.smt_solve.specs.Link.{LinkState}
 use Rattle.smt_solve.specs.Question.{Exchanges, Spares}
 use Rattle.smt_solve.specs.Starter.{add_told}
@@ -81,7 +83,8 @@ WhyFailed before now script e = FailsBeforeCheck before now e ⊎ FailsAtCheck b
 -- Why a session found nothing about two conditions, by what its link told before and tells now: the difference has a first fault, and
 -- the link was sent the logic alone; or the session failed.
 abbrev pub WhyNothingFound : Enums → Relation → PlainTerm → PlainTerm → ReviewError → (before now : LinkState) → Type 0
-WhyNothingFound enums relation t u (Encode e) before now = NamesFault (first_fault enums (difference_of relation t u ∷ [])) e × Exchanges before now logic_text [] × Spares before now
+WhyNothingFound enums relation t u (Encode e) before now =
+    NamesFault (first_fault enums (difference_of relation t u ∷ [])) e × Exchanges before now logic_text [] × Spares before now
 WhyNothingFound enums relation t u (Pool e) before now = ⊥
 WhyNothingFound enums relation t u (Solver e) before now = WhyFailed before now (text_for enums relation t u) e
 WhyNothingFound enums relation t u Memory before now = ⊤
@@ -98,12 +101,15 @@ module _ {L : Type 0} (state : L → LinkState) (allows : L → List ℕ → Lis
   -- This was found: a session of the pool was sent `(set-logic ALL)`, the text of the difference and `(check-sat)`, and answered by the
   -- one line that says so. Where the links of the starter are honest, which allows `allowed`, and this one told all, `Holds` may be
   -- believed: the relation holds in every interpretation of the conditions.
-  pub record Finds (allowed : List ℕ → List ℕ → List ℕ → Type 0) (enums : Enums) (relation : Relation) (t u : PlainTerm) (finding : Finding) : Type 0 where
+  pub record Finds (allowed : List ℕ → List ℕ → List ℕ → Type 0) (enums : Enums) (relation : Relation) (t u : PlainTerm) (finding : Finding)
+      : Type 0 where
     pub askable : IsAskable enums relation t u
     pub first : PooledSolver L
     pub last : PooledSolver L
     pub was_out : WasOut first last
-    pub answers : AnswersQuestion (allows (pooled_link first)) (pooled_state state first) (pooled_state state last) (text_for enums relation t u) (decision_for finding)
+    pub answers :
+        AnswersQuestion (allows (pooled_link first)) (pooled_state state first) (pooled_state state last) (text_for enums relation t u)
+        (decision_for finding)
     pub believed : finding ≡ Holds → IsHonest allowed → TellsAll (pooled_state state first) → AreRelated enums relation t u
 
   -- A session was handed out, and its link came back to the starter, which shows it where the link has failed. This is said of what the

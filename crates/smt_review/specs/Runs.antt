@@ -37,7 +37,8 @@ pub record Around (L : Type 0) : Type 0 where
   pub starter : StarterState L
 
 -- what a run stands on, by what is said of its source, its sink and its starter
-abbrev pub around : {R W P L : Type 0} → (R → Option (List ℕ)) → (R → ℕ) → (W → Option (List ℕ)) → (W → ℕ) → (P → StarterState L) → R → W → P → Around L
+abbrev pub around : {R W P L : Type 0} → (R → Option (List ℕ)) → (R → ℕ) → (W → Option (List ℕ)) → (W → ℕ) → (P → StarterState L) → R → W →
+    P → Around L
 around remaining source_faults contents sink_faults state source out starter = record {
   left = remaining source;
   source_faults = source_faults source;
@@ -71,16 +72,22 @@ module _ {L : Type 0} (state : L → LinkState) where
   -- The bytes are a job of two terms. A solver was started by the command and asked about the difference of the terms, as they are built;
   -- its link came back, and the word of what its one line says was put. Where the starter is honest and its links tell all, `holds` says
   -- that the relation holds of the terms, as they are written, in every interpretation of them.
-  pub record ReviewsPair (allows : L → List ℕ → List ℕ → List ℕ → Type 0) (allowed : List ℕ → List ℕ → List ℕ → Type 0) (call : SolverCall) (relation : Relation) (before after : Around L) (bytes : List ℕ) : Type 0 where
+  pub record ReviewsPair (allows : L → List ℕ → List ℕ → List ℕ → Type 0) (allowed : List ℕ → List ℕ → List ℕ → Type 0) (call : SolverCall)
+      (relation : Relation) (before after : Around L) (bytes : List ℕ) : Type 0 where
     pub pair : IsPair bytes
     pub finding : Finding
-    pub reviews : ReviewsOnce state allows allowed before.starter after.starter call pair.job.enums relation (built pair.first) (built pair.second) finding
+    pub reviews :
+        ReviewsOnce state allows allowed before.starter after.starter call pair.job.enums relation (built pair.first) (built pair.second)
+        finding
     pub put : after.held ≡ append_known before.held (finding_line finding)
-    pub believed : ((link : L) → TellsAll (state link)) → IsHonest allowed → finding ≡ Holds → AreRelated pair.job.enums relation pair.first pair.second
+    pub believed : ((link : L) → TellsAll (state link)) → IsHonest allowed → finding ≡ Holds →
+        AreRelated pair.job.enums relation pair.first pair.second
 
   -- what was asked for is done
-  abbrev pub IsDone : (allows : L → List ℕ → List ℕ → List ℕ → Type 0) → (allowed : List ℕ → List ℕ → List ℕ → Type 0) → SolverCall → (before after : Around L) → Option Command → Type 0
-  IsDone allows allowed call before after (Some (Review relation)) = Reads (ReviewsPair allows allowed call relation before after) before.left after.left
+  abbrev pub IsDone : (allows : L → List ℕ → List ℕ → List ℕ → Type 0) → (allowed : List ℕ → List ℕ → List ℕ → Type 0) → SolverCall →
+      (before after : Around L) → Option Command → Type 0
+  IsDone allows allowed call before after (Some (Review relation)) =
+      Reads (ReviewsPair allows allowed call relation before after) before.left after.left
   IsDone allows allowed call before after (Some Help) = after.held ≡ append_known before.held help_text
   IsDone allows allowed call before after (Some Version) = after.held ≡ append_known before.held version_text
   IsDone allows allowed call before after None = ⊥
@@ -89,7 +96,9 @@ module _ {L : Type 0} (state : L → LinkState) where
 
   -- A job of two terms has these bytes, and this is why nothing was found of them, as they are built.
   abbrev pub IsStopped : SolverCall → Relation → (before after : Around L) → Refusal → List ℕ → Type 0
-  IsStopped call relation before after refusal bytes = (p : IsPair bytes) × WhyNotReviewedOnce state before.starter after.starter call p.job.enums relation (built p.first) (built p.second) refusal
+  IsStopped call relation before after refusal bytes =
+      (p : IsPair bytes)
+      × WhyNotReviewedOnce state before.starter after.starter call p.job.enums relation (built p.first) (built p.second) refusal
 
   -- Why a review was refused. Where the job was, no solver was started.
   abbrev pub HasReviewCause : SolverCall → Relation → (before after : Around L) → Refusal → Type 0
@@ -122,8 +131,13 @@ LeavesOutput old new refusal = new ≡ old
 -- fault it is refused by the encoder, or the session fails before; another job and what is no job are refused as such; and the text of
 -- another word is put.
 pub record IsComplete {L : Type 0} (command : Option Command) (before after : Around L) (status : ℕ) : Type 0 where
-  pub reviewed : (relation : Relation) → command ≡ Some (Review relation) → ¬ SourceFailed before after → ¬ SinkFailed before after → ¬ StartFailed before after → IfSome before.left (λ bytes. IsFaultlessPair relation bytes → (status ≡ 0) ⊎ ((status ≡ 7) ⊎ (status ≡ 8)))
-  pub unwritten : (relation : Relation) → command ≡ Some (Review relation) → ¬ SourceFailed before after → ¬ SinkFailed before after → ¬ StartFailed before after → IfSome before.left (λ bytes. IsFaultyPair relation bytes → (status ≡ 4) ⊎ ((status ≡ 7) ⊎ (status ≡ 8)))
-  pub not_two : (relation : Relation) → command ≡ Some (Review relation) → ¬ SourceFailed before after → IfSome before.left (λ bytes. IsNoPair bytes → (status ≡ 3) ⊎ (status ≡ 7))
-  pub rejected : (relation : Relation) → command ≡ Some (Review relation) → ¬ SourceFailed before after → IfSome before.left (λ bytes. IsNoJob bytes → (status ≡ 3) ⊎ (status ≡ 7))
+  pub reviewed : (relation : Relation) → command ≡ Some (Review relation) → ¬ SourceFailed before after → ¬ SinkFailed before after →
+      ¬ StartFailed before after →
+      IfSome before.left (λ bytes. IsFaultlessPair relation bytes → (status ≡ 0) ⊎ ((status ≡ 7) ⊎ (status ≡ 8)))
+  pub unwritten : (relation : Relation) → command ≡ Some (Review relation) → ¬ SourceFailed before after → ¬ SinkFailed before after →
+      ¬ StartFailed before after → IfSome before.left (λ bytes. IsFaultyPair relation bytes → (status ≡ 4) ⊎ ((status ≡ 7) ⊎ (status ≡ 8)))
+  pub not_two : (relation : Relation) → command ≡ Some (Review relation) → ¬ SourceFailed before after →
+      IfSome before.left (λ bytes. IsNoPair bytes → (status ≡ 3) ⊎ (status ≡ 7))
+  pub rejected : (relation : Relation) → command ≡ Some (Review relation) → ¬ SourceFailed before after →
+      IfSome before.left (λ bytes. IsNoJob bytes → (status ≡ 3) ⊎ (status ≡ 7))
   pub printed : (command ≡ Some Help) ⊎ (command ≡ Some Version) → ¬ SinkFailed before after → (status ≡ 0) ⊎ (status ≡ 7)

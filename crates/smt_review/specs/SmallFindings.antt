@@ -12,5 +12,7 @@ use Rattle.smt_review.specs.declared.relation.Relation.{Relation}
 
 -- Where a run over small solvers found that a relation holds of the two terms of a job, it holds of them, with no premise.
 abbrev pub SmallFindingsAreBelieved : Type 0
-SmallFindingsAreBelieved = (starter : MiniStarter) (call : SolverCall) (relation : Relation) (before after : Around MiniLink) (bytes : List ℕ) (d : ReviewsPair mini_state mini_allows (mini_starter_allows starter) call relation before after bytes)
+SmallFindingsAreBelieved =
+    (starter : MiniStarter) (call : SolverCall) (relation : Relation) (before after : Around MiniLink) (bytes : List ℕ)
+    (d : ReviewsPair mini_state mini_allows (mini_starter_allows starter) call relation before after bytes)
     → d.finding ≡ Holds → AreRelated d.pair.job.enums relation d.pair.first d.pair.second

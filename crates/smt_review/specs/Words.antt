@@ -1,5 +1,5 @@
 -- What words ask for, and the texts that some of them print.
-use Rattle.std.specs.Prelude.{ℕ, Bool, true, false, if◌then◌else◌, bytes_eq, codes, List, [], ◌∷◌, Option, Some, None}
+use Rattle.std.specs.Prelude.{ℕ, Bool, true, false, if◌then◌else◌, bytes_eq, codes, List, [], ◌∷◌, Option, Some, None, ◌++◌}
 use Rattle.smt_solve.specs.Starter.{Command as SolverCall}
 use Rattle.smt_review.specs.declared.command.Command.{Command}
 use Rattle.smt_review.specs.declared.command.Command.TheVariants.{Review, Help, Version}
@@ -41,7 +41,22 @@ solver_named words = record { program = []; args = [] }
 
 -- what `--help` prints: what is asked, an example, what each answer is worth, and the statuses
 abbrev pub help_text : List ℕ
-help_text = codes "usage: smtreview equivalent or implies or disjoint PATH ARGS..\n\nReads a job of two Boolean terms from standard input, asks the solver PATH with these ARGS where they differ, and prints one word.\n\nequivalent  are both terms true in the same interpretations?\nimplies     is the second term true wherever the first is?\ndisjoint    are the terms nowhere true together?\n\nThe job has one assertion of two terms, before and after a change, as smtcli --help says what jobs are. For example, the job\n  (job (enums) (vars (\"a\" Bool) (\"b\" Bool)) (funs) (terms (not (and (var \"a\") (var \"b\"))) (or (not (var \"a\")) (not (var \"b\")))))\nin a file FILE and the command\n  smtreview equivalent timeout 60 cvc5 --lang smt --incremental --strings-exp < FILE\nprint holds. It waits as long as the solver takes, here for a minute at most.\n\nholds    the solver found no interpretation in which the terms differ so: the relation holds in all, if the solver is right\nfails    the solver says that there is an interpretation in which it fails\nunknown  the solver does not say\n\nstatus: 0 done, 2 no such command, 3 job refused, 4 no script for the difference, 5 source fault, 6 sink fault, 7 out of memory,\n        8 session fault, 9 the solver did not start\n"
+help_text =
+    codes "usage: smtreview equivalent or implies or disjoint PATH ARGS..\n\n"
+    ++ codes "Reads a job of two Boolean terms from standard input, asks the solver PATH with these ARGS where "
+    ++ codes "they differ, and prints one word.\n\nequivalent  are both terms true in the same interpretations?\n"
+    ++ codes "implies     is the second term true wherever the first is?\n" ++ codes "disjoint    are the terms nowhere true together?\n\n"
+    ++ codes "The job has one assertion of two terms, before and after a change, as smtcli --help says what jobs "
+    ++ codes "are. For example, the job\n"
+    ++ codes "  (job (enums) (vars (\"a\" Bool) (\"b\" Bool)) (funs) (terms (not (and (var \"a\") (var \"b\"))) "
+    ++ codes "(or (not (var \"a\")) (not (var \"b\")))))\nin a file FILE and the command\n"
+    ++ codes "  smtreview equivalent timeout 60 cvc5 --lang smt --incremental --strings-exp < FILE\n"
+    ++ codes "print holds. It waits as long as the solver takes, here for a minute at most.\n\n"
+    ++ codes "holds    the solver found no interpretation in which the terms differ so: the relation holds in "
+    ++ codes "all, if the solver is right\n" ++ codes "fails    the solver says that there is an interpretation in which it fails\n"
+    ++ codes "unknown  the solver does not say\n\n"
+    ++ codes "status: 0 done, 2 no such command, 3 job refused, 4 no script for the difference, 5 source fault, 6 "
+    ++ codes "sink fault, 7 out of memory,\n        8 session fault, 9 the solver did not start\n"
 
 -- what `--version` prints
 abbrev pub version_text : List ℕ

@@ -3,7 +3,8 @@ ghost use Rattle.std.specs.Prelude.{◌≡◌, true, IfOk, IsOkUnless};
 ghost use Rattle.std.specs.Rc.{rc_str_bytes};
 ghost use Rattle.law_texts.specs.SharedTexts.{texts};
 ghost use Rattle.smt_solve.specs.Starter.{command_of as solver_call};
-ghost use Rattle.smt_review.specs.Words.{commanded, is_review, relation_named, review_by, solver_named, word_asks};
+ghost use Rattle.smt_review.specs.Words.{commanded, is_review, relation_named, review_by};
+ghost use Rattle.smt_review.specs.Words.{solver_named, word_asks};
 
 use crate::relation::Relation;
 use smt_solve::{SolverCommand, SolverError};

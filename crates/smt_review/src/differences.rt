@@ -1,7 +1,7 @@
 // The term that is true exactly where a relation does not hold.
-ghost use Rattle.std.specs.Prelude.{◌≡◌, IfOk};
+ghost use Rattle.std.specs.Prelude.{◌≡◌};
 ghost use Rattle.law_folding.specs.Builder.{folding};
-ghost use Rattle.smt_term.specs.View.{plain_term};
+ghost use Rattle.smt_term.specs.View.{BuildsTerm, plain_term};
 ghost use Rattle.smt_review.specs.Differences.{difference_by};
 
 use crate::relation::Relation;
@@ -14,7 +14,8 @@ use std::alloc::Global;
 /// # Errors
 /// `Memory`, where there is none for the term.
 pub fn difference(alloc: Global, relation: Relation, a: Term, b: Term) -> Result<Term, TermError>
-    ensures folded { IfOk result (λ d. plain_term d ≡ difference_by folding relation (plain_term a) (plain_term b)) }
+    ensures folded { BuildsTerm result
+        (difference_by folding relation (plain_term a) (plain_term b)) }
 {
     match relation {
         Relation::Equivalent => {

@@ -15,7 +15,9 @@ pub fn differences_tell()
 
 /// A pool that was just opened over a starter may be asked for a review.
 pub fn opened_pools_may_be_asked<P: Starter>(pool: &SolverPool<P>)
-    ensures { (starter : P) → UnusedSessionsAreIdle P.L.state P.L.allows (P.allows starter) (P.allows (pool_starter pool.now)) (pool_state P.state pool.now).idle }
+    ensures { (starter : P) →
+        UnusedSessionsAreIdle P.L.state P.L.allows (P.allows starter)
+        (P.allows (pool_starter pool.now)) (pool_state P.state pool.now).idle }
 {
     let _ = pool;
 }

@@ -18,10 +18,14 @@ use std::alloc::Global;
 
 /// Reads the source to its end, and the job that it gave, with its terms.
 pub(crate) fn read_whole<R: Source>(alloc: Global, source: &mut R) -> Result<Job, ReadRefusal>
-    ensures job { IfOk result (λ job. IfSome (R.remaining source.old) (λ bytes. (section : StatedSection) × IsBuiltFrom bytes section (plain_job job))) }
+    ensures job { IfOk result (λ job.
+        IfSome (R.remaining source.old)
+        (λ bytes. (section : StatedSection) × IsBuiltFrom bytes section (plain_job job))) }
     ensures boolean { IfOk result (λ job. AreBoolean (asserted (plain_steps job.steps))) }
-    ensures ended { OnOk result (R.remaining source.new ≡ option_map (λ _. []) (R.remaining source.old)) }
-    ensures refused { IfErr result (HasReadCause (R.remaining source.old) (Rose (R.faults source.old) (R.faults source.new))) }
+    ensures ended { OnOk result
+        (R.remaining source.new ≡ option_map (λ _. []) (R.remaining source.old)) }
+    ensures refused { IfErr result
+        (HasReadCause (R.remaining source.old) (Rose (R.faults source.old) (R.faults source.new))) }
 {
     let bytes = read_input(alloc, source, GREATEST_JOB)?;
     Ok(read_job(alloc, bytes.as_slice())?)
@@ -29,7 +33,8 @@ pub(crate) fn read_whole<R: Source>(alloc: Global, source: &mut R) -> Result<Job
 
 /// The two terms of steps that are one assertion of two terms, None of other steps.
 pub(crate) fn two_terms(steps: &StepList) -> Option<(&Term, &Term)>
-    ensures two { IfSome result (λ p. pair_of (plain_steps steps.now) ≡ Some (plain_term p.0.now, plain_term p.1.now)) }
+    ensures two { IfSome result
+        (λ p. pair_of (plain_steps steps.now) ≡ Some (plain_term p.0.now, plain_term p.1.now)) }
     ensures other { result ≡ None → pair_of (plain_steps steps.now) ≡ None }
 {
     match steps.items() {

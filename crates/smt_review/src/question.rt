@@ -2,7 +2,7 @@
 ghost use Rattle.std.specs.Prelude.{◌≡◌, false, is_err, IfErr, IfOk, IsOkUnless, OnOk};
 ghost use Rattle.law_terms.specs.Plain.{BoolType};
 ghost use Rattle.law_terms.specs.Typing.{Typed};
-ghost use Rattle.smt_types.specs.Enums.{enums_of};
+ghost use Rattle.smt_term.specs.Enums.{enums_of};
 ghost use Rattle.smt_term.specs.View.{plain_term};
 ghost use Rattle.smt_solve.specs.Link.{AllowsTheSame};
 ghost use Rattle.smt_solve.specs.Session.{session_failed, session_link, state_by};
@@ -32,9 +32,16 @@ fn ask_session<L: Link>(
     requires first { Typed (plain_term a) BoolType }
     requires second { Typed (plain_term b) BoolType }
     requires unfailed { session_failed session.old ≡ false }
-    ensures answered { IfOk result (λ finding. AnswersQuestion (L.allows (session_link session.old)) (state_by L.state session.old) (state_by L.state session.new) (text_for (enums_of enums.now) relation (plain_term a) (plain_term b)) (decision_for finding)) }
-    ensures askable { OnOk result (IsAskable (enums_of enums.now) relation (plain_term a) (plain_term b)) }
-    ensures refused { IfErr result (λ e. WhyNothingFound (enums_of enums.now) relation (plain_term a) (plain_term b) e (state_by L.state session.old) (state_by L.state session.new)) }
+    ensures answered { IfOk result (λ finding.
+        AnswersQuestion (L.allows (session_link session.old)) (state_by L.state session.old)
+        (state_by L.state session.new)
+        (text_for (enums_of enums.now) relation (plain_term a) (plain_term b))
+        (decision_for finding)) }
+    ensures askable { OnOk result
+        (IsAskable (enums_of enums.now) relation (plain_term a) (plain_term b)) }
+    ensures refused { IfErr result (λ e.
+        WhyNothingFound (enums_of enums.now) relation (plain_term a) (plain_term b) e
+        (state_by L.state session.old) (state_by L.state session.new)) }
     ensures failed { session_failed session.new ≡ is_err result }
 {
     session.send_lines(b"(set-logic ALL)\n")?;
@@ -52,7 +59,8 @@ fn ask_session<L: Link>(
 /// Sends `(reset)` to a session that has answered, as a pool does that takes one back. A link that fails now has answered before.
 fn reset<L: Link>(session: &mut LocalSolver<L>) -> Result<(), ReviewError>
     requires { session_failed session.old ≡ false }
-    ensures reset { OnOk result (IsResetAfter (state_by L.state session.old) (state_by L.state session.new)) }
+    ensures reset { OnOk result
+        (IsResetAfter (state_by L.state session.old) (state_by L.state session.new)) }
     ensures refusal { IsOkUnless result ReviewError.Memory }
 {
     match session.send_lines(b"(reset)\n") {
@@ -74,9 +82,16 @@ fn ask_and_reset<L: Link>(
     requires first { Typed (plain_term a) BoolType }
     requires second { Typed (plain_term b) BoolType }
     requires unfailed { session_failed session.old ≡ false }
-    ensures answered { IfOk result (λ finding. AnswersOnce (L.allows (session_link session.old)) (state_by L.state session.old) (state_by L.state session.new) (text_for (enums_of enums.now) relation (plain_term a) (plain_term b)) (decision_for finding)) }
-    ensures askable { OnOk result (IsAskable (enums_of enums.now) relation (plain_term a) (plain_term b)) }
-    ensures refused { IfErr result (λ e. WhyNothingFound (enums_of enums.now) relation (plain_term a) (plain_term b) e (state_by L.state session.old) (state_by L.state session.new)) }
+    ensures answered { IfOk result (λ finding.
+        AnswersOnce (L.allows (session_link session.old)) (state_by L.state session.old)
+        (state_by L.state session.new)
+        (text_for (enums_of enums.now) relation (plain_term a) (plain_term b))
+        (decision_for finding)) }
+    ensures askable { OnOk result
+        (IsAskable (enums_of enums.now) relation (plain_term a) (plain_term b)) }
+    ensures refused { IfErr result (λ e.
+        WhyNothingFound (enums_of enums.now) relation (plain_term a) (plain_term b) e
+        (state_by L.state session.old) (state_by L.state session.new)) }
 {
     let finding = ask_session(alloc, enums, relation, a, b, session)?;
     reset(session)?;
@@ -103,8 +118,12 @@ pub(crate) fn review_once<P: Starter>(
 ) -> Result<Finding, Refusal>
     requires first { Typed (plain_term a) BoolType }
     requires second { Typed (plain_term b) BoolType }
-    ensures reviewed { IfOk result (ReviewsOnce P.L.state P.L.allows (P.allows starter.old) (P.state starter.old) (P.state starter.new) (command_of solver.now) (enums_of enums.now) relation (plain_term a) (plain_term b)) }
-    ensures refused { IfErr result (WhyNotReviewedOnce P.L.state (P.state starter.old) (P.state starter.new) (command_of solver.now) (enums_of enums.now) relation (plain_term a) (plain_term b)) }
+    ensures reviewed { IfOk result (ReviewsOnce P.L.state P.L.allows (P.allows starter.old)
+        (P.state starter.old) (P.state starter.new) (command_of solver.now) (enums_of enums.now)
+        relation (plain_term a) (plain_term b)) }
+    ensures refused { IfErr result (WhyNotReviewedOnce P.L.state (P.state starter.old)
+        (P.state starter.new) (command_of solver.now) (enums_of enums.now) relation (plain_term a)
+        (plain_term b)) }
     ensures allows { AllowsTheSame (P.allows starter.old) (P.allows starter.new) }
 {
     let mut session = match LocalSolver::from_command(alloc, starter, solver) {

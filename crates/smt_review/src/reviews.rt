@@ -2,7 +2,7 @@
 ghost use Rattle.std.specs.Prelude.{◌≡◌, ◌≤◌, ◌↔◌, IfErr, IfOk, IsErrOf};
 ghost use Rattle.law_terms.specs.Plain.{BoolType};
 ghost use Rattle.law_terms.specs.Typing.{Typed};
-ghost use Rattle.smt_types.specs.Enums.{enums_of};
+ghost use Rattle.smt_term.specs.Enums.{enums_of};
 ghost use Rattle.smt_term.specs.View.{plain_term};
 ghost use Rattle.smt_solve.specs.Link.{AllowsTheSame};
 ghost use Rattle.law_verdicts.specs.Honesty.{IsHonest};
@@ -66,14 +66,25 @@ pub fn review<P: Starter>(
     requires first { Typed (plain_term a) BoolType }
     requires second { Typed (plain_term b) BoolType }
     requires permits { (pool_state P.state pool.old).permits ≤ (pool_state P.state pool.old).max }
-    requires idle { AreIdleSessions P.L.state P.L.allows (P.allows (pool_starter pool.old)) (pool_state P.state pool.old).idle }
-    ensures found { IfOk result (Finds P.L.state P.L.allows (pool_state P.state pool.old) (pool_state P.state pool.new) (P.allows (pool_starter pool.old)) (enums_of enums.now) relation (plain_term a) (plain_term b)) }
-    ensures believed { ((link : P.L) → TellsAll (P.L.state link)) → IsHonest (P.allows (pool_starter pool.old)) →
-        IfOk result (λ finding. finding ≡ Finding.Holds → AreRelated (enums_of enums.now) relation (plain_term a) (plain_term b)) }
-    ensures refused { IfErr result (WhyNotReviewed P.L.state P.L.allows (pool_state P.state pool.old) (pool_state P.state pool.new) (enums_of enums.now) relation (plain_term a) (plain_term b)) }
-    ensures timeout { IsErrOf result (ReviewError.Pool AcquireTimeout) ↔ ((pool_state P.state pool.old).permits ≡ 0) }
-    ensures kept { MayBeAskedAgain P.L.state P.L.allows (P.allows (pool_starter pool.new)) (pool_state P.state pool.old) (pool_state P.state pool.new) }
-    ensures allows { AllowsTheSame (P.allows (pool_starter pool.old)) (P.allows (pool_starter pool.new)) }
+    requires idle { AreIdleSessions P.L.state P.L.allows (P.allows (pool_starter pool.old))
+        (pool_state P.state pool.old).idle }
+    ensures found { IfOk result (Finds P.L.state P.L.allows (pool_state P.state pool.old)
+        (pool_state P.state pool.new) (P.allows (pool_starter pool.old)) (enums_of enums.now)
+        relation (plain_term a) (plain_term b)) }
+    ensures believed { ((link : P.L) → TellsAll (P.L.state link)) →
+        IsHonest (P.allows (pool_starter pool.old)) →
+        IfOk result (λ finding.
+        finding ≡ Finding.Holds →
+        AreRelated (enums_of enums.now) relation (plain_term a) (plain_term b)) }
+    ensures refused { IfErr result (WhyNotReviewed P.L.state P.L.allows
+        (pool_state P.state pool.old) (pool_state P.state pool.new) (enums_of enums.now) relation
+        (plain_term a) (plain_term b)) }
+    ensures timeout { IsErrOf result (ReviewError.Pool AcquireTimeout)
+        ↔ ((pool_state P.state pool.old).permits ≡ 0) }
+    ensures kept { MayBeAskedAgain P.L.state P.L.allows (P.allows (pool_starter pool.new))
+        (pool_state P.state pool.old) (pool_state P.state pool.new) }
+    ensures allows { AllowsTheSame (P.allows (pool_starter pool.old))
+        (P.allows (pool_starter pool.new)) }
 {
     let mut session = pool.acquire()?;
     let answer = ask(alloc, enums, relation, a, b, &mut session);

@@ -6,7 +6,9 @@ ghost use Rattle.smt_script.specs.Sink.{Rose};
 ghost use Rattle.smt_solve.specs.Link.{AllowsTheSame};
 ghost use Rattle.smt_runs.specs.Runs.{Reads, Reports};
 ghost use Rattle.smt_review.specs.Refusal.{line_of, status_of};
-ghost use Rattle.smt_review.specs.Runs.{HasCause, HasPutCause, HasReviewCause, IsComplete, IsDone, LeavesOutput, ReviewsPair, around, finding_line};
+ghost use Rattle.smt_review.specs.Runs.{HasCause, HasPutCause, HasReviewCause, IsComplete, IsDone};
+ghost use Rattle.smt_review.specs.Runs.{LeavesOutput, ReviewsPair, around};
+ghost use Rattle.smt_review.specs.Runs.{finding_line};
 ghost use Rattle.smt_review.specs.Words.{commanded, is_review, solver_named};
 
 use crate::command::{Command, HELP, VERSION, command_of, solver_of};
@@ -51,8 +53,16 @@ fn review_job<R: Source, W: Sink, P: Starter>(
     starter: &mut P,
 ) -> Result<(), Refusal>
     requires { commanded (texts words.now) ≡ Some (Command.Review relation) }
-    ensures done { OnOk result (Reads (ReviewsPair P.L.state P.L.allows (P.allows starter.old) (solver_named (texts words.now)) relation (around R.remaining R.faults W.contents W.faults P.state source.old out.old starter.old) (around R.remaining R.faults W.contents W.faults P.state source.new out.new starter.new)) (R.remaining source.old) (R.remaining source.new)) }
-    ensures refused { IfErr result (HasReviewCause P.L.state (solver_named (texts words.now)) relation (around R.remaining R.faults W.contents W.faults P.state source.old out.old starter.old) (around R.remaining R.faults W.contents W.faults P.state source.new out.new starter.new)) }
+    ensures done { OnOk result (Reads
+        (ReviewsPair P.L.state P.L.allows (P.allows starter.old) (solver_named (texts words.now))
+        relation
+        (around R.remaining R.faults W.contents W.faults P.state source.old out.old starter.old)
+        (around R.remaining R.faults W.contents W.faults P.state source.new out.new starter.new))
+        (R.remaining source.old) (R.remaining source.new)) }
+    ensures refused { IfErr result (HasReviewCause P.L.state (solver_named (texts words.now))
+        relation
+        (around R.remaining R.faults W.contents W.faults P.state source.old out.old starter.old)
+        (around R.remaining R.faults W.contents W.faults P.state source.new out.new starter.new)) }
     ensures untouched { IfErr result (LeavesOutput (W.contents out.old) (W.contents out.new)) }
     ensures allows { AllowsTheSame (P.allows starter.old) (P.allows starter.new) }
 {
@@ -77,11 +87,19 @@ fn answer<R: Source, W: Sink, P: Starter>(
     out: &mut W,
     starter: &mut P,
 ) -> Result<(), Refusal>
-    ensures done { OnOk result (IsDone P.L.state P.L.allows (P.allows starter.old) (solver_named (texts words.now)) (around R.remaining R.faults W.contents W.faults P.state source.old out.old starter.old) (around R.remaining R.faults W.contents W.faults P.state source.new out.new starter.new) (commanded (texts words.now))) }
-    ensures refused { IfErr result (HasCause P.L.state (commanded (texts words.now)) (solver_named (texts words.now)) (around R.remaining R.faults W.contents W.faults P.state source.old out.old starter.old) (around R.remaining R.faults W.contents W.faults P.state source.new out.new starter.new)) }
+    ensures done { OnOk result (IsDone P.L.state P.L.allows (P.allows starter.old)
+        (solver_named (texts words.now))
+        (around R.remaining R.faults W.contents W.faults P.state source.old out.old starter.old)
+        (around R.remaining R.faults W.contents W.faults P.state source.new out.new starter.new)
+        (commanded (texts words.now))) }
+    ensures refused { IfErr result (HasCause P.L.state (commanded (texts words.now))
+        (solver_named (texts words.now))
+        (around R.remaining R.faults W.contents W.faults P.state source.old out.old starter.old)
+        (around R.remaining R.faults W.contents W.faults P.state source.new out.new starter.new)) }
     ensures untouched { IfErr result (LeavesOutput (W.contents out.old) (W.contents out.new)) }
     ensures unread { is_review (commanded (texts words.now)) ≡ false → source.new ≡ source.old }
-    ensures unstarted { is_review (commanded (texts words.now)) ≡ false → starter.new ≡ starter.old }
+    ensures unstarted { is_review (commanded (texts words.now)) ≡ false →
+        starter.new ≡ starter.old }
     ensures allows { AllowsTheSame (P.allows starter.old) (P.allows starter.new) }
 {
     match command_of(words) {
@@ -133,12 +151,25 @@ pub fn review_run<R: Source, W: Sink, D: Sink, P: Starter>(
     diag: &mut D,
     starter: &mut P,
 ) -> u8
-    ensures done { result ≡ 0 → IsDone P.L.state P.L.allows (P.allows starter.old) (solver_named (texts words.now)) (around R.remaining R.faults W.contents W.faults P.state source.old out.old starter.old) (around R.remaining R.faults W.contents W.faults P.state source.new out.new starter.new) (commanded (texts words.now)) }
+    ensures done { result ≡ 0 →
+        IsDone P.L.state P.L.allows (P.allows starter.old) (solver_named (texts words.now))
+        (around R.remaining R.faults W.contents W.faults P.state source.old out.old starter.old)
+        (around R.remaining R.faults W.contents W.faults P.state source.new out.new starter.new)
+        (commanded (texts words.now)) }
     ensures usage { result ≡ 2 ↔ (commanded (texts words.now) ≡ None) }
-    ensures complete { IsComplete (commanded (texts words.now)) (around R.remaining R.faults W.contents W.faults P.state source.old out.old starter.old) (around R.remaining R.faults W.contents W.faults P.state source.new out.new starter.new) result }
+    ensures complete { IsComplete (commanded (texts words.now))
+        (around R.remaining R.faults W.contents W.faults P.state source.old out.old starter.old)
+        (around R.remaining R.faults W.contents W.faults P.state source.new out.new starter.new)
+        result }
     ensures unread { is_review (commanded (texts words.now)) ≡ false → source.new ≡ source.old }
-    ensures unstarted { is_review (commanded (texts words.now)) ≡ false → starter.new ≡ starter.old }
-    ensures report { Reports status_of line_of (HasCause P.L.state (commanded (texts words.now)) (solver_named (texts words.now)) (around R.remaining R.faults W.contents W.faults P.state source.old out.old starter.old) (around R.remaining R.faults W.contents W.faults P.state source.new out.new starter.new)) (LeavesOutput (W.contents out.old) (W.contents out.new)) D.contents D.faults D.has_room D.place diag.old diag.new result }
+    ensures unstarted { is_review (commanded (texts words.now)) ≡ false →
+        starter.new ≡ starter.old }
+    ensures report { Reports status_of line_of
+        (HasCause P.L.state (commanded (texts words.now)) (solver_named (texts words.now))
+        (around R.remaining R.faults W.contents W.faults P.state source.old out.old starter.old)
+        (around R.remaining R.faults W.contents W.faults P.state source.new out.new starter.new))
+        (LeavesOutput (W.contents out.old) (W.contents out.new)) D.contents D.faults D.has_room
+        D.place diag.old diag.new result }
     ensures allows { AllowsTheSame (P.allows starter.old) (P.allows starter.new) }
 {
     match answer(alloc, words, source, out, starter) {

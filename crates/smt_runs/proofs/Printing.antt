@@ -4,8 +4,8 @@ use Rattle.std.specs.Rc.{rc_str_bytes}
 use Rattle.law_terms.specs.Faults.{Fault}
 use Rattle.smt_script.specs.Sink.{Rose}
 use Rattle.smt_term.specs.View.{plain_type}
-use Rattle.smt_types.specs.Entities.{bytes_of_id, bytes_of_type}
-use Rattle.smt_types.specs.PatternView.{plain_ord_pattern}
+use Rattle.smt_term.specs.Entities.{bytes_of_id, bytes_of_type}
+use Rattle.smt_term.specs.PatternView.{plain_ord_pattern}
 use Rattle.smt_encode.specs.Refusals.{HasCause}
 use Rattle.smt_encode.specs.declared.error.EncodeError.{EncodeError}
 use Rattle.smt_encode.specs.declared.error.EncodeError.TheVariants.{Io as SinkFails, Memory as EncodeWant, NoScope as NoLevel, Spent as IsSpent, EmptyEnum as EnumRefused, EncodeStringFailed as StringRefused, EncodePatternFailed as PatternRefused, EnumMissingMember as EntityRefused, ExpectRecord as NoRecordRefused, MalformedRecordGet as NoOperandRefused, MissingTypeEncoding as TypeRefused, RecordMissingAttr as AttributeRefused, BitVecError as BitsRefused}

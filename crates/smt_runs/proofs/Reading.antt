@@ -17,8 +17,8 @@ use Rattle.smt_jobs.specs.StepView.{plain_section}
 use Rattle.smt_jobs.specs.declared.numbered.NumberedJob.{NumberedJob}
 use Rattle.smt_runs.specs.Refusal.{job_refusal}
 use Rattle.smt_runs.specs.Jobs.{HasFaultOf, HasReadCause, IsReadOf, IsAJob, IsFaultOf, IsFaultlessJob, IsFaultyScript, IsRefusedAs}
-use Rattle.smt_job_declarations.specs.declared.error.JobError.{JobError}
-use Rattle.smt_job_declarations.specs.declared.error.JobError.TheVariants.{TooLarge as JobTooLarge, Parse as JobParse, TooDeep as JobTooDeep, BadForm as JobBadForm, UnknownName as JobUnknownName, DuplicateName as JobDuplicateName, BadType as JobBadType, BadWidth as JobBadWidth, BadLiteral as JobBadLiteral, IllTyped as JobIllTyped, NotBool as JobNotBool, Unbalanced as JobUnbalanced, Memory as JobWant}
+use Rattle.smt_job_terms.specs.declared.error.JobError.{JobError}
+use Rattle.smt_job_terms.specs.declared.error.JobError.TheVariants.{TooLarge as JobTooLarge, Parse as JobParse, TooDeep as JobTooDeep, BadForm as JobBadForm, UnknownName as JobUnknownName, DuplicateName as JobDuplicateName, BadType as JobBadType, BadWidth as JobBadWidth, BadLiteral as JobBadLiteral, IllTyped as JobIllTyped, NotBool as JobNotBool, Unbalanced as JobUnbalanced, Memory as JobWant}
 use Rattle.smt_runs.specs.declared.refusal.EncodeRefusal.{EncodeRefusal}
 use Rattle.smt_runs.specs.declared.refusal.EncodeRefusal.TheVariants.{EmptyEnum, EncodeStringFailed, EncodePatternFailed, EnumMissingMember, ExpectRecord, MalformedRecordGet, MissingTypeEncoding, RecordMissingAttr}
 use Rattle.smt_runs.specs.declared.refusal.JobRefusal.{JobRefusal}

@@ -96,7 +96,8 @@ pub record AskedSoFar (enums : Enums) (steps : List PlainStep) (checks : List An
 
 -- The session failed by an error of this kind at the check behind these, or where lines were to be sent, on a link that tells this now. It
 -- has at least answered the checks before, and their words were put.
-pub record StopsSession (enums : Enums) (steps : List PlainStep) (held now : Option (List ℕ)) (kind : SessionFault) (allows : List ℕ → List ℕ → List ℕ → Type 0) (s : LinkState) : Type 0 where
+pub record StopsSession (enums : Enums) (steps : List PlainStep) (held now : Option (List ℕ)) (kind : SessionFault)
+    (allows : List ℕ → List ℕ → List ℕ → Type 0) (s : LinkState) : Type 0 where
   pub checks : List AnsweredCheck
   pub lines : List ℕ
   pub so_far : AskedSoFar enums steps checks lines
@@ -104,17 +105,21 @@ pub record StopsSession (enums : Enums) (steps : List PlainStep) (held now : Opt
   pub why : FailsBehind s checks lines kind ⊎ FailsToSendLines s kind
   pub put : now ≡ append_known held (words_of checks)
 
--- Why a solver was not asked by all steps, on a link that tells this now: a term has no script, the sink failed, the session failed, or there
+-- Why a solver was not asked by all steps, on a link that tells this now: a term has no script, the sink failed, the session failed, or
+-- there
 -- was no memory.
-abbrev pub StopsAsking : Enums → List PlainStep → (held now : Option (List ℕ)) → (failed : Type 0) → (allows : List ℕ → List ℕ → List ℕ → Type 0) → LinkState → CheckRefusal → Type 0
-StopsAsking enums steps held now failed allows s (Encode kind) = IsFaultOf kind (first_fault enums (asserted steps)) × Spoke allows s held now
+abbrev pub StopsAsking : Enums → List PlainStep → (held now : Option (List ℕ)) → (failed : Type 0) →
+    (allows : List ℕ → List ℕ → List ℕ → Type 0) → LinkState → CheckRefusal → Type 0
+StopsAsking enums steps held now failed allows s (Encode kind) =
+    IsFaultOf kind (first_fault enums (asserted steps)) × Spoke allows s held now
 StopsAsking enums steps held now failed allows s Sink = failed × SpokeInPart allows s held now
 StopsAsking enums steps held now failed allows s Start = ⊥
 StopsAsking enums steps held now failed allows s (Session kind) = StopsSession enums steps held now kind allows s
 StopsAsking enums steps held now failed allows s Memory = SpokeAtLeast allows s held now
 
 -- A link was asked by all steps, which have no fault, and the words of its answers were put.
-pub record AsksAll (enums : Enums) (steps : List PlainStep) (held now : Option (List ℕ)) (allows : List ℕ → List ℕ → List ℕ → Type 0) (s : LinkState) (checks : List AnsweredCheck) (rest : List ℕ) : Type 0 where
+pub record AsksAll (enums : Enums) (steps : List PlainStep) (held now : Option (List ℕ)) (allows : List ℕ → List ℕ → List ℕ → Type 0)
+    (s : LinkState) (checks : List AnsweredCheck) (rest : List ℕ) : Type 0 where
   pub faultless : first_fault enums (asserted steps) ≡ None
   pub asked : AreAsked enums steps new_stages [] checks rest
   pub answered : HasAnswered s checks rest
@@ -140,11 +145,15 @@ pub record Loses {L : Type 0} (holds : L → Type 0) (old new : StarterState L) 
 
 -- The question broke off for want of memory: before a solver was asked, or on a link that has at least answered some checks, whose words
 -- were put, of the last perhaps only a first part. That link came back, or it was lost, since there was no memory to take it back.
-abbrev pub BreaksOff : {L : Type 0} → (state : L → LinkState) → (allows : List ℕ → List ℕ → List ℕ → Type 0) → (old new : StarterState L) → SolverCall → (held now : Option (List ℕ)) → Type 0
+abbrev pub BreaksOff : {L : Type 0} → (state : L → LinkState) → (allows : List ℕ → List ℕ → List ℕ → Type 0) → (old new : StarterState L) →
+    SolverCall → (held now : Option (List ℕ)) → Type 0
 BreaksOff state allows old new command held now =
-    StopsBefore old new command held now ⊎ (Returns (λ link. SpokeAtLeast allows (state link) held now) old new command ⊎ Loses (λ link. SpokeAtLeast allows (state link) held now) old new command)
+    StopsBefore old new command held now
+    ⊎ (Returns (λ link. SpokeAtLeast allows (state link) held now) old new command
+    ⊎ Loses (λ link. SpokeAtLeast allows (state link) held now) old new command)
 
-module _ {L : Type 0} (state : L → LinkState) (allows : List ℕ → List ℕ → List ℕ → Type 0) (old new : StarterState L) (command : SolverCall) (enums : Enums) (steps : List PlainStep) (held now : Option (List ℕ)) where
+module _ {L : Type 0} (state : L → LinkState) (allows : List ℕ → List ℕ → List ℕ → Type 0) (old new : StarterState L) (command : SolverCall)
+    (enums : Enums) (steps : List PlainStep) (held now : Option (List ℕ)) where
   -- A solver was started by the command and asked by all steps, and its link came back.
   pub record AsksSolver : Type 0 where
     pub checks : List AnsweredCheck
@@ -154,8 +163,13 @@ module _ {L : Type 0} (state : L → LinkState) (allows : List ℕ → List ℕ 
   -- Why a solver was not asked by all steps. Where one was started its link came back, unless there was no memory to take it back; where
   -- the session failed since its link had, the starter's count of link faults shows it.
   abbrev pub WhyNotAsked : (failed : Type 0) → CheckRefusal → Type 0
-  WhyNotAsked failed (Encode kind) = IsFaultOf kind (first_fault enums (asserted steps)) × (((new ≡ old) × (now ≡ held)) ⊎ Returns (λ link. Spoke allows (state link) held now) old new command)
+  WhyNotAsked failed (Encode kind) =
+      IsFaultOf kind (first_fault enums (asserted steps))
+      × (((new ≡ old) × (now ≡ held)) ⊎ Returns (λ link. Spoke allows (state link) held now) old new command)
   WhyNotAsked failed Sink = failed × Returns (λ link. SpokeInPart allows (state link) held now) old new command
   WhyNotAsked failed Start = Rose old.failed_starts new.failed_starts × ((lines : List ℕ) × AskedSoFar enums steps [] lines) × (now ≡ held)
-  WhyNotAsked failed (Session kind) = Returns (λ link. StopsSession enums steps held now kind allows (state link) × (0 < (state link).faults → Rose old.link_faults new.link_faults)) old new command
+  WhyNotAsked failed (Session kind) =
+      Returns (λ link.
+      StopsSession enums steps held now kind allows (state link) × (0 < (state link).faults → Rose old.link_faults new.link_faults))
+      old new command
   WhyNotAsked failed Memory = BreaksOff state allows old new command held now

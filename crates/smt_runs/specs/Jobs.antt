@@ -1,20 +1,26 @@
 -- Why no job is read of bytes, and why a job has no script.
 use Rattle.std.specs.Prelude.{ℕ, ◌≡◌, ◌≤◌, ⊤, is_some, length, IfSome, IsTrue, List, Option, Some, None}
-use Rattle.law_terms.specs.Faults.{Fault, EmptyEnum as EnumFault, EncodeStringFailed as StringFault, EncodePatternFailed as PatternFault, EnumMissingMember as MemberFault, ExpectRecord as NoRecordFault, MalformedRecordGet as NoOperandFault, MissingTypeEncoding as TypeFault, RecordMissingAttr as AttributeFault}
+use Rattle.law_terms.specs.Faults.{Fault, EmptyEnum as EnumFault, EncodeStringFailed as StringFault, EncodePatternFailed as PatternFault}
+use Rattle.law_terms.specs.Faults.{EnumMissingMember as MemberFault, ExpectRecord as NoRecordFault, MalformedRecordGet as NoOperandFault}
+use Rattle.law_terms.specs.Faults.{MissingTypeEncoding as TypeFault, RecordMissingAttr as AttributeFault}
 use Rattle.law_terms.specs.Plain.{PatternPart, PlainType}
 use Rattle.smt_sexpr.specs.Refusals.{IsRefused}
 use Rattle.smt_sexpr.specs.declared.error.SExprParseError.{SExprParseError}
 use Rattle.smt_sexpr.specs.declared.error.SExprParseError.TheVariants.{TooDeep as TextTooDeep}
 use Rattle.law_jobs.specs.Jobs.{HasFault, IsBuiltFrom, IsJob, IsTooLong, PlainJob, fault_of, greatest_length, greatest_nesting}
-use Rattle.law_jobs.specs.Outcomes.{JobFault, DuplicateFault, FormFault, LiteralFault, TruthFault, TypeFault as NoTypeFault, TypingFault, UnbalancedFault, UnknownFault, WidthFault}
+use Rattle.law_jobs.specs.Outcomes.{JobFault, DuplicateFault, FormFault, LiteralFault, TruthFault, TypeFault as NoTypeFault, TypingFault}
+use Rattle.law_jobs.specs.Outcomes.{UnbalancedFault, UnknownFault, WidthFault}
 use Rattle.smt_jobs.specs.Numbered.{numbered_job}
 use Rattle.smt_jobs.specs.Refused.{IsTextFault}
 use Rattle.smt_jobs.specs.StepView.{plain_section}
 use Rattle.smt_jobs.specs.declared.numbered.NumberedJob.{NumberedJob}
 use Rattle.smt_runs.specs.declared.refusal.EncodeRefusal.{EncodeRefusal}
-use Rattle.smt_runs.specs.declared.refusal.EncodeRefusal.TheVariants.{EmptyEnum, EncodeStringFailed, EncodePatternFailed, EnumMissingMember, ExpectRecord, MalformedRecordGet, MissingTypeEncoding, RecordMissingAttr}
+use Rattle.smt_runs.specs.declared.refusal.EncodeRefusal.TheVariants.{EmptyEnum, EncodeStringFailed, EncodePatternFailed, EnumMissingMember}
+use Rattle.smt_runs.specs.declared.refusal.EncodeRefusal.TheVariants.{ExpectRecord, MalformedRecordGet, MissingTypeEncoding}
+use Rattle.smt_runs.specs.declared.refusal.EncodeRefusal.TheVariants.{RecordMissingAttr}
 use Rattle.smt_runs.specs.declared.refusal.JobRefusal.{JobRefusal}
-use Rattle.smt_runs.specs.declared.refusal.JobRefusal.TheVariants.{TooLarge, Parse, TooDeep, BadForm, UnknownName, DuplicateName, BadType, BadWidth, BadLiteral, IllTyped, NotBool, Unbalanced}
+use Rattle.smt_runs.specs.declared.refusal.JobRefusal.TheVariants.{TooLarge, Parse, TooDeep, BadForm, UnknownName, DuplicateName, BadType}
+use Rattle.smt_runs.specs.declared.refusal.JobRefusal.TheVariants.{BadWidth, BadLiteral, IllTyped, NotBool, Unbalanced}
 use Rattle.smt_runs.specs.declared.refusal.PrintRefusal.{PrintRefusal}
 use Rattle.smt_runs.specs.declared.refusal.PrintRefusal.TheVariants.{Encode as PrintEncode, Sink as PrintSink, Memory as PrintWant}
 use Rattle.smt_runs.specs.declared.refusal.ReadRefusal.{ReadRefusal}

@@ -19,7 +19,8 @@ StopsAt (PopStep ∷ steps) = ⊥
 
 -- Behind stages the steps before the next check were written: a sink that held something got their text, the encoder has the names and
 -- levels to which they lead, and these steps are left. What was written has no fault.
-pub record PutsPiece {S : Type 0} (enums : Enums) (held now : Option (List ℕ)) (new : Encoder S) (x : Stages) (steps left : List PlainStep) : Type 0 where
+pub record PutsPiece {S : Type 0} (enums : Enums) (held now : Option (List ℕ)) (new : Encoder S) (x : Stages) (steps left : List PlainStep)
+    : Type 0 where
   pub written : List PlainStep
   pub cut : steps ≡ written ++ left
   pub silent : checks_in written ≡ zero

@@ -13,7 +13,8 @@ use Rattle.smt_runs.specs.Pieces.{StopsAt}
 
 -- An encoder has written the steps before those that are left, of which the first is a check, if there is one. These are their checks,
 -- and these lines stand behind the last of them. No step closes a level where none is open.
-pub record AtPiece {S : Type 0} (enums : Enums) (encoder : Encoder S) (steps left : List PlainStep) (checks : List AnsweredCheck) (lines : List ℕ) : Type 0 where
+pub record AtPiece {S : Type 0} (enums : Enums) (encoder : Encoder S) (steps left : List PlainStep) (checks : List AnsweredCheck)
+    (lines : List ℕ) : Type 0 where
   pub done : List PlainStep
   pub cut : steps ≡ done ++ left
   pub stops : StopsAt left

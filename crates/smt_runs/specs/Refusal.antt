@@ -2,10 +2,22 @@
 use Rattle.std.specs.Prelude.{ℕ, List, codes}
 use Rattle.smt_script.specs.declared.input.InputError.{InputError}
 use Rattle.smt_script.specs.declared.input.InputError.TheVariants.{Fault as InputFault, TooLarge as InputTooLarge, Memory as InputWant}
-use Rattle.smt_job_declarations.specs.declared.error.JobError.{JobError}
-use Rattle.smt_job_declarations.specs.declared.error.JobError.TheVariants.{TooLarge as JobTooLarge, Parse as JobParse, TooDeep as JobTooDeep, BadForm as JobBadForm, UnknownName as JobUnknownName, DuplicateName as JobDuplicateName, BadType as JobBadType, BadWidth as JobBadWidth, BadLiteral as JobBadLiteral, IllTyped as JobIllTyped, NotBool as JobNotBool, Unbalanced as JobUnbalanced, Memory as JobWant}
+use Rattle.smt_job_terms.specs.declared.error.JobError.{JobError}
+use Rattle.smt_job_terms.specs.declared.error.JobError.TheVariants.{TooLarge as JobTooLarge, Parse as JobParse, TooDeep as JobTooDeep}
+use Rattle.smt_job_terms.specs.declared.error.JobError.TheVariants.{BadForm as JobBadForm, UnknownName as JobUnknownName}
+use Rattle.smt_job_terms.specs.declared.error.JobError.TheVariants.{DuplicateName as JobDuplicateName, BadType as JobBadType}
+use Rattle.smt_job_terms.specs.declared.error.JobError.TheVariants.{BadWidth as JobBadWidth, BadLiteral as JobBadLiteral}
+use Rattle.smt_job_terms.specs.declared.error.JobError.TheVariants.{IllTyped as JobIllTyped, NotBool as JobNotBool}
+use Rattle.smt_job_terms.specs.declared.error.JobError.TheVariants.{Unbalanced as JobUnbalanced, Memory as JobWant}
 use Rattle.smt_encode.specs.declared.error.EncodeError.{EncodeError}
-use Rattle.smt_encode.specs.declared.error.EncodeError.TheVariants.{Io as SinkFails, Memory as EncodeWant, NoScope as NoLevel, Spent as IsSpent, EmptyEnum as EnumRefused, EncodeStringFailed as StringRefused, EncodePatternFailed as PatternRefused, EnumMissingMember as EntityRefused, ExpectRecord as NoRecordRefused, MalformedRecordGet as NoOperandRefused, MissingTypeEncoding as TypeRefused, RecordMissingAttr as AttributeRefused, BitVecError as BitsRefused}
+use Rattle.smt_encode.specs.declared.error.EncodeError.TheVariants.{Io as SinkFails, Memory as EncodeWant, NoScope as NoLevel}
+use Rattle.smt_encode.specs.declared.error.EncodeError.TheVariants.{Spent as IsSpent, EmptyEnum as EnumRefused}
+use Rattle.smt_encode.specs.declared.error.EncodeError.TheVariants.{EncodeStringFailed as StringRefused}
+use Rattle.smt_encode.specs.declared.error.EncodeError.TheVariants.{EncodePatternFailed as PatternRefused}
+use Rattle.smt_encode.specs.declared.error.EncodeError.TheVariants.{EnumMissingMember as EntityRefused, ExpectRecord as NoRecordRefused}
+use Rattle.smt_encode.specs.declared.error.EncodeError.TheVariants.{MalformedRecordGet as NoOperandRefused}
+use Rattle.smt_encode.specs.declared.error.EncodeError.TheVariants.{MissingTypeEncoding as TypeRefused}
+use Rattle.smt_encode.specs.declared.error.EncodeError.TheVariants.{RecordMissingAttr as AttributeRefused, BitVecError as BitsRefused}
 use Rattle.smt_script.specs.declared.sink.SinkError.{SinkError}
 use Rattle.smt_script.specs.declared.sink.SinkError.TheVariants.{Fault as SinkFault, Memory as SinkWant}
 use Rattle.smt_pool.specs.declared.check_error.CheckError.{CheckError}
@@ -13,9 +25,12 @@ use Rattle.smt_pool.specs.declared.check_error.CheckError.TheVariants.{Start as 
 use Rattle.smt_runs.specs.declared.refusal.CheckRefusal.{CheckRefusal}
 use Rattle.smt_runs.specs.declared.refusal.CheckRefusal.TheVariants.{Encode, Sink, Start, Session, Memory}
 use Rattle.smt_runs.specs.declared.refusal.EncodeRefusal.{EncodeRefusal}
-use Rattle.smt_runs.specs.declared.refusal.EncodeRefusal.TheVariants.{EmptyEnum, EncodeStringFailed, EncodePatternFailed, EnumMissingMember, ExpectRecord, MalformedRecordGet, MissingTypeEncoding, RecordMissingAttr}
+use Rattle.smt_runs.specs.declared.refusal.EncodeRefusal.TheVariants.{EmptyEnum, EncodeStringFailed, EncodePatternFailed, EnumMissingMember}
+use Rattle.smt_runs.specs.declared.refusal.EncodeRefusal.TheVariants.{ExpectRecord, MalformedRecordGet, MissingTypeEncoding}
+use Rattle.smt_runs.specs.declared.refusal.EncodeRefusal.TheVariants.{RecordMissingAttr}
 use Rattle.smt_runs.specs.declared.refusal.JobRefusal.{JobRefusal}
-use Rattle.smt_runs.specs.declared.refusal.JobRefusal.TheVariants.{TooLarge, Parse, TooDeep, BadForm, UnknownName, DuplicateName, BadType, BadWidth, BadLiteral, IllTyped, NotBool, Unbalanced}
+use Rattle.smt_runs.specs.declared.refusal.JobRefusal.TheVariants.{TooLarge, Parse, TooDeep, BadForm, UnknownName, DuplicateName, BadType}
+use Rattle.smt_runs.specs.declared.refusal.JobRefusal.TheVariants.{BadWidth, BadLiteral, IllTyped, NotBool, Unbalanced}
 use Rattle.smt_runs.specs.declared.refusal.PrintRefusal.{PrintRefusal}
 use Rattle.smt_runs.specs.declared.refusal.PrintRefusal.TheVariants.{Encode as PrintEncode, Sink as PrintSink, Memory as PrintWant}
 use Rattle.smt_runs.specs.declared.refusal.ReadRefusal.{ReadRefusal}

@@ -33,7 +33,8 @@ pub record Reads (P : List ℕ → Type 0) (remaining left : Option (List ℕ)) 
   pub ended : left ≡ option_map (λ _. []) remaining
 
 -- Programs name their refusals by types of their own, each with its status and its line.
-module _ {E S : Type 0} (status_of : E → ℕ) (line_of : E → List ℕ) (has_cause leaves_output : E → Type 0) (contents : S → Option (List ℕ)) (faults : S → ℕ) (has_room : S → ℕ → Type 0) (place : S → List ℕ) (old new : S) (status : ℕ) where
+module _ {E S : Type 0} (status_of : E → ℕ) (line_of : E → List ℕ) (has_cause leaves_output : E → Type 0) (contents : S → Option (List ℕ))
+    (faults : S → ℕ) (has_room : S → ℕ → Type 0) (place : S → List ℕ) (old new : S) (status : ℕ) where
   -- A status, and what was said: the line of a refusal of this status, which has its cause, was put, as far as that went. What else was put
   -- is what the refusal leaves.
   pub record Says : Type 0 where

@@ -1,6 +1,6 @@
 // The question to a solver by the steps of a job, from its start to the return of its link.
 ghost use Rattle.std.specs.Prelude.{◌≡◌, ◌≤◌, IfErr, IsTrue, OnOk};
-ghost use Rattle.smt_types.specs.Enums.{enums_of};
+ghost use Rattle.smt_term.specs.Enums.{enums_of};
 ghost use Rattle.law_jobs.specs.Steps.{AreBalanced};
 ghost use Rattle.smt_script.specs.Sink.{Rose};
 ghost use Rattle.smt_solve.specs.Link.{AllowsTheSame};
@@ -44,8 +44,13 @@ pub fn check_steps<L: Ledger, W: Sink, P: Starter>(
 ) -> Result<(), CheckRefusal>
     requires stand { IsTrue (all_steps_stand nodes steps.now) }
     requires balanced { AreBalanced 0 (steps_by nodes steps.now) }
-    ensures asked { OnOk result (AsksSolver P.L.state (P.allows starter.old) (P.state starter.old) (P.state starter.new) (command_of solver.now) (enums_of enums.now) (steps_by nodes steps.now) (W.contents out.old) (W.contents out.new)) }
-    ensures refused { IfErr result (WhyNotAsked P.L.state (P.allows starter.old) (P.state starter.old) (P.state starter.new) (command_of solver.now) (enums_of enums.now) (steps_by nodes steps.now) (W.contents out.old) (W.contents out.new) (Rose (W.faults out.old) (W.faults out.new))) }
+    ensures asked { OnOk result (AsksSolver P.L.state (P.allows starter.old) (P.state starter.old)
+        (P.state starter.new) (command_of solver.now) (enums_of enums.now)
+        (steps_by nodes steps.now) (W.contents out.old) (W.contents out.new)) }
+    ensures refused { IfErr result (WhyNotAsked P.L.state (P.allows starter.old)
+        (P.state starter.old) (P.state starter.new) (command_of solver.now) (enums_of enums.now)
+        (steps_by nodes steps.now) (W.contents out.old) (W.contents out.new)
+        (Rose (W.faults out.old) (W.faults out.new))) }
     ensures later { W.faults out.old ≤ W.faults out.new }
     ensures allows { AllowsTheSame (P.allows starter.old) (P.allows starter.new) }
 {

@@ -1,8 +1,9 @@
 // A solver that is asked by the steps of a job: each piece of the script is made, sent and answered before the next is made.
-ghost use Rattle.std.specs.Prelude.{ℕ, List, [], ◌∷◌, ◌++◌, ◌≡◌, ◌≤◌, ◌≢◌, false, IfErr, IfOk, IsTrue, OnOk, Some, is_err, length};
+ghost use Rattle.std.specs.Prelude.{ℕ, List, [], ◌∷◌, ◌++◌, ◌≡◌, ◌≤◌, ◌≢◌, false, IfErr, IfOk};
+ghost use Rattle.std.specs.Prelude.{IsTrue, OnOk, Some, is_err, length};
 ghost use Rattle.std.specs.Io.KnownBytes.{append_known};
 ghost use Rattle.law_terms.specs.Faults.{first_fault};
-ghost use Rattle.smt_types.specs.Enums.{enums_of};
+ghost use Rattle.smt_term.specs.Enums.{enums_of};
 ghost use Rattle.law_theorem.specs.Fits.{Stages, encoding_of};
 ghost use Rattle.law_jobs.specs.Steps.{AreBalanced, PlainStep, asserted};
 ghost use Rattle.smt_script.specs.Memory.{list_bytes};
@@ -51,11 +52,17 @@ pub(crate) fn next_piece<'a, 's, L: Ledger>(
 )
     requires stand { IsTrue (all_steps_stand (nodes_in encoder) steps.now) }
     requires unspent { is_spent encoder ≡ false }
-    requires balanced { (x : Stages) × HasEncoding encoder (encoding_of x) × AreBalanced (length x.below) (steps_by (nodes_in encoder) steps.now) }
+    requires balanced { (x : Stages) × HasEncoding encoder (encoding_of x)
+        × AreBalanced (length x.below) (steps_by (nodes_in encoder) steps.now) }
     ensures puts { (x : Stages) → HasEncoding encoder.entry (encoding_of x) →
-        IfOk result.1 (λ p. PutsPiece (enums_in encoder.entry) (Some []) (Some (list_bytes p.0)) result.0 x (steps_by (nodes_in encoder.entry) steps.now) (steps_by (nodes_in encoder.entry) p.1.now)) }
+        IfOk result.1 (λ p.
+        PutsPiece (enums_in encoder.entry) (Some []) (Some (list_bytes p.0)) result.0 x
+        (steps_by (nodes_in encoder.entry) steps.now) (steps_by (nodes_in encoder.entry) p.1.now)) }
     ensures stand { IfOk result.1 (λ p. IsTrue (all_steps_stand (nodes_in encoder.entry) p.1.now)) }
-    ensures refused { IfErr result.1 (HasPrintCause (first_fault (enums_in encoder.entry) (asserted (steps_by (nodes_in encoder.entry) steps.now))) ⊥) }
+    ensures refused { IfErr result.1 (HasPrintCause
+        (first_fault (enums_in encoder.entry)
+        (asserted (steps_by (nodes_in encoder.entry) steps.now)))
+        ⊥) }
     ensures unspent { is_spent result.0 ≡ is_err result.1 }
     ensures numbers { nodes_in result.0 ≡ nodes_in encoder.entry }
     ensures enums { enums_in result.0 ≡ enums_in encoder.entry }
@@ -75,11 +82,16 @@ fn put_verdict<K: Link, W: Sink>(
     out: &mut W,
 ) -> Result<(), CheckRefusal>
     requires { session_failed session.old ≡ false }
-    ensures asked { OnOk result (SpeaksNext (K.allows (session_link session.old)) (state_by K.state session.old) (state_by K.state session.new) (W.contents out.old) (W.contents out.new) lines.now) }
-    ensures refused { IfErr result (StopsSpeaking (K.allows (session_link session.old)) (state_by K.state session.old) (state_by K.state session.new) (W.contents out.old) (W.contents out.new) (Rose (W.faults out.old) (W.faults out.new)) lines.now) }
+    ensures asked { OnOk result (SpeaksNext (K.allows (session_link session.old))
+        (state_by K.state session.old) (state_by K.state session.new) (W.contents out.old)
+        (W.contents out.new) lines.now) }
+    ensures refused { IfErr result (StopsSpeaking (K.allows (session_link session.old))
+        (state_by K.state session.old) (state_by K.state session.new) (W.contents out.old)
+        (W.contents out.new) (Rose (W.faults out.old) (W.faults out.new)) lines.now) }
     ensures unfailed { OnOk result (session_failed session.new ≡ false) }
     ensures later { W.faults out.old ≤ W.faults out.new }
-    ensures allows { AllowsTheSame (K.allows (session_link session.old)) (K.allows (session_link session.new)) }
+    ensures allows { AllowsTheSame (K.allows (session_link session.old))
+        (K.allows (session_link session.new)) }
 {
     let decision = ask_behind(session, lines)?;
     out.put(line_of(decision).as_bytes())?;
@@ -97,15 +109,25 @@ pub(crate) fn converse<'a, L: Ledger, K: Link, W: Sink>(
     out: &mut W,
     look_ups: &mut Steps<L>,
 ) -> Result<(), CheckRefusal>
-    requires at { (steps : List PlainStep) × AtPiece (enums_in encoder) encoder steps (steps_by (nodes_in encoder) left.now) [] (list_bytes lines) }
+    requires at { (steps : List PlainStep)
+        × AtPiece (enums_in encoder) encoder steps (steps_by (nodes_in encoder) left.now) []
+        (list_bytes lines) }
     requires stand { IsTrue (all_steps_stand (nodes_in encoder) left.now) }
     requires unspent { is_spent encoder ≡ false }
     requires unfailed { session_failed session.old ≡ false }
     requires unused { IsUnused (state_by K.state session.old) }
-    ensures asked { (steps : List PlainStep) → AtPiece (enums_in encoder.entry) encoder.entry steps (steps_by (nodes_in encoder.entry) left.now) [] (list_bytes lines) →
-        OnOk result ((checks : List AnsweredCheck) × (rest : List ℕ) × AsksAll (enums_in encoder.entry) steps (W.contents out.old) (W.contents out.new) (K.allows (session_link session.old)) (state_by K.state session.new) checks rest) }
-    ensures refused { (steps : List PlainStep) → AtPiece (enums_in encoder.entry) encoder.entry steps (steps_by (nodes_in encoder.entry) left.now) [] (list_bytes lines) →
-        IfErr result (StopsAsking (enums_in encoder.entry) steps (W.contents out.old) (W.contents out.new) (Rose (W.faults out.old) (W.faults out.new)) (K.allows (session_link session.old)) (state_by K.state session.new)) }
+    ensures asked { (steps : List PlainStep) →
+        AtPiece (enums_in encoder.entry) encoder.entry steps
+        (steps_by (nodes_in encoder.entry) left.now) [] (list_bytes lines) →
+        OnOk result ((checks : List AnsweredCheck) × (rest : List ℕ)
+        × AsksAll (enums_in encoder.entry) steps (W.contents out.old) (W.contents out.new)
+        (K.allows (session_link session.old)) (state_by K.state session.new) checks rest) }
+    ensures refused { (steps : List PlainStep) →
+        AtPiece (enums_in encoder.entry) encoder.entry steps
+        (steps_by (nodes_in encoder.entry) left.now) [] (list_bytes lines) →
+        IfErr result (StopsAsking (enums_in encoder.entry) steps (W.contents out.old)
+        (W.contents out.new) (Rose (W.faults out.old) (W.faults out.new))
+        (K.allows (session_link session.old)) (state_by K.state session.new)) }
     ensures later { W.faults out.old ≤ W.faults out.new }
 {
     begin_dialogue(session)?;

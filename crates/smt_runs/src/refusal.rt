@@ -5,7 +5,7 @@ ghost use Rattle.smt_encode.specs.declared.error.EncodeError.TheVariants as enco
 ghost use Rattle.smt_bits.specs.declared.error.BitVecError.{BitVecError as Bits};
 
 use smt_encode::EncodeError;
-use smt_job_declarations::JobError;
+use smt_job_terms::JobError;
 use smt_pool::{CheckError, SessionFault};
 use smt_script::{InputError, SinkError};
 

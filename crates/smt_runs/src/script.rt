@@ -1,7 +1,7 @@
 // The script of a job's steps, with a line for each check.
 ghost use Rattle.std.specs.Prelude.{ℕ, ◌≡◌, ◌≤◌, IsErrOf, IsTrue, OnOk};
 ghost use Rattle.law_terms.specs.Faults.{first_fault};
-ghost use Rattle.smt_types.specs.Enums.{enums_of};
+ghost use Rattle.smt_term.specs.Enums.{enums_of};
 ghost use Rattle.law_jobs.specs.Steps.{AreBalanced, asserted};
 ghost use Rattle.smt_jobs.specs.Numbers.{all_steps_stand, steps_by};
 ghost use Rattle.smt_encode.specs.Refusals.{HasCause};
@@ -27,8 +27,11 @@ pub fn put_steps<L: Ledger, W: Sink>(
     look_ups: &mut Steps<L>,
 ) -> Result<(), EncodeError>
     requires stand { IsTrue (all_steps_stand nodes steps.now) }
-    ensures puts { OnOk result (PutsSteps (enums_of enums.now) (W.contents out.old) (W.contents out.new) (steps_by nodes steps.now)) }
-    ensures refused { AreBalanced 0 (steps_by nodes steps.now) → HasCause (W.faults out.old) (W.faults out.new) (first_fault (enums_of enums.now) (asserted (steps_by nodes steps.now))) result }
+    ensures puts { OnOk result (PutsSteps (enums_of enums.now) (W.contents out.old)
+        (W.contents out.new) (steps_by nodes steps.now)) }
+    ensures refused { AreBalanced 0 (steps_by nodes steps.now) →
+        HasCause (W.faults out.old) (W.faults out.new)
+        (first_fault (enums_of enums.now) (asserted (steps_by nodes steps.now))) result }
     ensures fresh { IsErrOf result IsSpentError → ⊥ }
     ensures later { W.faults out.old ≤ W.faults out.new }
 {

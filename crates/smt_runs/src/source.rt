@@ -19,8 +19,10 @@ use std::alloc::Global;
 pub fn read_source<R: Source>(alloc: Global, source: &mut R) -> Result<NumberedJob, ReadRefusal>
     ensures job { IfOk result (IsReadOf (R.remaining source.old)) }
     ensures balanced { IfOk result (λ job. AreBalanced 0 (numbered_steps job.steps)) }
-    ensures ended { OnOk result (R.remaining source.new ≡ option_map (λ _. []) (R.remaining source.old)) }
-    ensures refused { IfErr result (HasReadCause (R.remaining source.old) (Rose (R.faults source.old) (R.faults source.new))) }
+    ensures ended { OnOk result
+        (R.remaining source.new ≡ option_map (λ _. []) (R.remaining source.old)) }
+    ensures refused { IfErr result
+        (HasReadCause (R.remaining source.old) (Rose (R.faults source.old) (R.faults source.new))) }
 {
     let bytes = read_input(alloc, source, GREATEST_JOB)?;
     Ok(read_numbered(alloc, bytes.as_slice())?)

@@ -1,5 +1,5 @@
 -- What words ask for, and the texts that some of them print.
-use Rattle.std.specs.Prelude.{ℕ, ◌^◌, ◌-◌, ◌&&◌, ◌||◌, nat_lt, if◌then◌else◌, bytes_eq, codes, List, [], ◌∷◌, Option, Some, None}
+use Rattle.std.specs.Prelude.{ℕ, ◌^◌, ◌-◌, ◌&&◌, ◌||◌, nat_lt, if◌then◌else◌, bytes_eq, codes, List, [], ◌∷◌, Option, Some, None, ◌++◌}
 use Rattle.law_texts.specs.Digits.{decimal_number, is_numeral}
 use Rattle.smt_sat_run.specs.declared.command.Command.{Command}
 use Rattle.smt_sat_run.specs.declared.command.Command.TheVariants.{Search, Check, Help, Version}
@@ -33,7 +33,24 @@ file_of words = None
 
 -- what `--help` prints: the options, the form of a formula, an example, and the statuses
 abbrev pub help_text : List ℕ
-help_text = codes "usage: smtsat [--conflicts N | --proof FILE] < FORMULA\n\nReads a formula in conjunctive normal form from standard input, in the format DIMACS, and searches for truths of its variables that\nmake all clauses true. Prints what was found, as solvers print it:\n\n  s SATISFIABLE     and lines that begin with v: the literals that are true, of all variables in order, and a 0 behind them\n  s UNSATISFIABLE   no truths of the variables make all clauses true\n  s UNKNOWN         neither was found\n\n--conflicts N    searches over at most N conflicts, below 2^64\n--proof FILE     checks a proof in place of searching: DRAT as text, as `cadical -q --no-binary FORMULA FILE` writes it; where a\n                 step does not follow, or the proof ends before the empty clause, that is said on standard error\n\nThe lines that begin with c are comments, wherever they stand. The first line of the others is `p cnf VARIABLES CLAUSES`, and behind it\nare the literals of the clauses, each clause ended by 0. A line of % at the end, as some files have it, is refused: take it away first.\n\nexample:  printf 'p cnf 2 2\\n1 -2 0\\n2 0\\n' | smtsat\nprints    s SATISFIABLE\n          v 1 2 0\n\nstatus: 10 satisfiable; 20 unsatisfiable; 0 unknown; 2 the words are no command; 3 the formula is refused; 5 source fault; 6 sink\n        fault; 7 out of memory\n"
+help_text =
+    codes "usage: smtsat [--conflicts N | --proof FILE] < FORMULA\n\n"
+    ++ codes "Reads a formula in conjunctive normal form from standard input, in the format DIMACS, and searches "
+    ++ codes "for truths of its variables that\n" ++ codes "make all clauses true. Prints what was found, as solvers print it:\n\n"
+    ++ codes "  s SATISFIABLE     and lines that begin with v: the literals that are true, of all variables in "
+    ++ codes "order, and a 0 behind them\n  s UNSATISFIABLE   no truths of the variables make all clauses true\n"
+    ++ codes "  s UNKNOWN         neither was found\n\n" ++ codes "--conflicts N    searches over at most N conflicts, below 2^64\n"
+    ++ codes "--proof FILE     checks a proof in place of searching: DRAT as text, as `cadical -q --no-binary "
+    ++ codes "FORMULA FILE` writes it; where a\n"
+    ++ codes "                 step does not follow, or the proof ends before the empty clause, that is said on "
+    ++ codes "standard error\n\n"
+    ++ codes "The lines that begin with c are comments, wherever they stand. The first line of the others is `p "
+    ++ codes "cnf VARIABLES CLAUSES`, and behind it\n"
+    ++ codes "are the literals of the clauses, each clause ended by 0. A line of % at the end, as some files have "
+    ++ codes "it, is refused: take it away first.\n\nexample:  printf 'p cnf 2 2\\n1 -2 0\\n2 0\\n' | smtsat\n"
+    ++ codes "prints    s SATISFIABLE\n          v 1 2 0\n\n"
+    ++ codes "status: 10 satisfiable; 20 unsatisfiable; 0 unknown; 2 the words are no command; 3 the formula is "
+    ++ codes "refused; 5 source fault; 6 sink\n        fault; 7 out of memory\n"
 
 -- what `--version` prints
 abbrev pub version_text : List ℕ

@@ -12,8 +12,6 @@ mod lines;
 mod program;
 mod reading;
 mod refusal;
-#[cfg(test)]
-mod tests;
 mod value_lines;
 mod values;
 mod verdict;

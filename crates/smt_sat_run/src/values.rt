@@ -1,5 +1,6 @@
 // The lines that spell truths of variables.
-ghost use Rattle.std.specs.Prelude.{◌≡◌, ◌<◌, ◌≤◌, ◌+◌, ◌^◌, ◌++◌, ◌∷◌, [], ℕ, List, OnOk, IfOk, codes, length, map, not, vec_len};
+ghost use Rattle.std.specs.Prelude.{◌≡◌, ◌<◌, ◌≤◌, ◌+◌, ◌^◌, ◌++◌, ◌∷◌, [], ℕ, List, OnOk, IfOk};
+ghost use Rattle.std.specs.Prelude.{codes, length, map, not, vec_len};
 ghost use Rattle.std.specs.List.{range_with_len};
 ghost use Rattle.law_texts.specs.Digits.{minus_if};
 ghost use Rattle.smt_search.specs.Given.{truths};

@@ -10,7 +10,8 @@ pub record ReadsAll (remaining left' : Option (List ℕ)) (bytes : List ℕ) : T
   pub nothing_left : left' ≡ option_map (λ _. []) remaining
 
 -- Reads were made one after another, whatever came of them.
-pub record ReadsOn {S : Type 0} (remaining : S → Option (List ℕ)) (faults : S → ℕ) (never_fails : S → Type 0) (place : S → List ℕ) (old new : S) : Type 0 where
+pub record ReadsOn {S : Type 0} (remaining : S → Option (List ℕ)) (faults : S → ℕ) (never_fails : S → Type 0) (place : S → List ℕ)
+    (old new : S) : Type 0 where
   -- these bytes of what was left were given
   pub given : List ℕ
   pub from_left : remaining old ≡ prepend_known given (remaining new)

@@ -1,5 +1,6 @@
 -- What sinks in memory hold, and what a put does to them, exactly.
-use Rattle.std.specs.Prelude.{ℕ, ◌+◌, ◌-◌, ◌^◌, ◌≤◌, ◌<◌, ◌≡◌, min, List, [], ◌++◌, length, take, All, Contains, IsOk, IsErrOf, OnOk, OnErr, Result, Option, Some}
+use Rattle.std.specs.Prelude.{ℕ, ◌+◌, ◌-◌, ◌^◌, ◌≤◌, ◌<◌, ◌≡◌, min, List, [], ◌++◌, length, take, All, Contains, IsOk, IsErrOf, OnOk, OnErr}
+use Rattle.std.specs.Prelude.{Result, Option, Some}
 use Rattle.smt_script.specs.declared.sink.SinkError.{SinkError}
 use Rattle.smt_script.specs.declared.sink.SinkError.TheVariants.{Fault}
 use Rattle.smt_script.specs.declared.memory.MemorySink.{MemorySink}

@@ -17,7 +17,8 @@ pub record AppendsPart (old new : Option (List ℕ)) (bytes : List ℕ) : Type 0
 
 -- These bytes are put, where a sink holds `contents`, has failed `faults` times, certainly takes
 -- `has_room` and stands at `place`.
-pub record Puts {S T : Type 0} (contents : S → Option (List ℕ)) (faults : S → ℕ) (has_room : S → ℕ → Type 0) (place : S → List ℕ) (old new : S) (bytes : List ℕ) (result : Result T SinkError) : Type 0 where
+pub record Puts {S T : Type 0} (contents : S → Option (List ℕ)) (faults : S → ℕ) (has_room : S → ℕ → Type 0) (place : S → List ℕ)
+    (old new : S) (bytes : List ℕ) (result : Result T SinkError) : Type 0 where
   -- Ok appended all of them
   pub ok : OnOk result (contents new ≡ append_known (contents old) bytes)
   -- an error appended a first part of them
@@ -35,7 +36,8 @@ pub record Puts {S T : Type 0} (contents : S → Option (List ℕ)) (faults : S 
 
 -- What is held back is handed on, where a sink holds `contents`, has failed `faults` times, certainly takes `has_room` and
 -- stands at `place`.
-pub record Flushes {S T : Type 0} (contents : S → Option (List ℕ)) (faults : S → ℕ) (has_room : S → ℕ → Type 0) (place : S → List ℕ) (old new : S) (result : Result T SinkError) : Type 0 where
+pub record Flushes {S T : Type 0} (contents : S → Option (List ℕ)) (faults : S → ℕ) (has_room : S → ℕ → Type 0) (place : S → List ℕ)
+    (old new : S) (result : Result T SinkError) : Type 0 where
   -- it holds what it held, also on an error
   pub same_contents : contents new ≡ contents old
   -- the count of faults never falls

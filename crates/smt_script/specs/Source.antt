@@ -7,7 +7,8 @@ use Rattle.smt_script.specs.declared.source.SourceFault.{SourceFault}
 
 -- A read is made, where a source has `remaining` left, has failed `faults` times, certainly fails at no
 -- read where `never_fails` holds, and stands at `place`.
-pub record ReadsNext {S : Type 0} (remaining : S → Option (List ℕ)) (faults : S → ℕ) (never_fails : S → Type 0) (place : S → List ℕ) (old new : S) (buffer : List ℕ) (result : Result ℕ SourceFault) : Type 0 where
+pub record ReadsNext {S : Type 0} (remaining : S → Option (List ℕ)) (faults : S → ℕ) (never_fails : S → Type 0) (place : S → List ℕ)
+    (old new : S) (buffer : List ℕ) (result : Result ℕ SourceFault) : Type 0 where
   -- no more than the buffer takes
   pub bound : IfOk result (λ n. n ≤ length buffer)
   -- Ok of n gave the next n bytes, at the buffer's front

@@ -1,5 +1,6 @@
 // Reading a whole input.
-ghost use Rattle.std.specs.Prelude.{◌≡◌, ◌<◌, ◌≤◌, length, vec_len, IfOk, IfSome, IsErrOf, IsOkUnless};
+ghost use Rattle.std.specs.Prelude.{◌≡◌, ◌<◌, ◌≤◌, length, vec_len, IfOk, IfSome, IsErrOf};
+ghost use Rattle.std.specs.Prelude.{IsOkUnless};
 ghost use Rattle.smt_script.specs.Sink.{Rose};
 ghost use Rattle.smt_script.specs.Input.{ReadsAll, ReadsOn};
 

@@ -50,7 +50,8 @@ impl MemorySink {
 
 impl Sink for MemorySink {
     ghost use Rattle.smt_script.specs.Sink.{Puts, unreferenced};
-    ghost use Rattle.smt_script.specs.Memory.{memory_contents, memory_faults, memory_has_room, PutsInMemory};
+    ghost use Rattle.smt_script.specs.Memory.{memory_contents, memory_faults, memory_has_room};
+    ghost use Rattle.smt_script.specs.Memory.{PutsInMemory};
 
     ghost contents = { memory_contents };
 
@@ -60,8 +61,8 @@ impl Sink for MemorySink {
 
     /// Appends the bytes that fit, or none where this put is to fail. It takes no memory.
     fn put(&mut self, bytes: &[u8]) -> Result<(), SinkError>
-        ensures puts { Puts memory_contents memory_faults memory_has_room unreferenced self.old self.new
-            bytes.now result }
+        ensures puts { Puts memory_contents memory_faults memory_has_room unreferenced self.old
+            self.new bytes.now result }
         ensures exact { PutsInMemory self.old self.new bytes.now result }
     {
         self.puts = self.puts.saturating_add(1);

@@ -1,9 +1,14 @@
 // The lines of a script, put to any sink.
 ghost use Rattle.std.specs.Prelude.{◌≡◌, ◌↔◌, [], map, IsTrue};
 ghost use Rattle.std.specs.List.{join_by};
-ghost use Rattle.smt_script.specs.CommandTexts.{check_sat_text, exit_text, get_model_text, reset_text, set_logic_text, set_option_text};
+ghost use Rattle.smt_script.specs.CommandTexts.{check_sat_text, exit_text, get_model_text};
+ghost use Rattle.smt_script.specs.CommandTexts.{reset_text, set_logic_text, set_option_text};
 ghost use Rattle.smt_script.specs.Sink.{Puts};
-ghost use Rattle.law_texts.specs.LineTexts.{in_comment, spaced, sorted_names, datatype_body, constructor_lines, comment_text, assert_text, define_fun_text, declare_const_text, declare_fun_text, declare_datatype_text, push_text, pop_text};
+ghost use Rattle.law_texts.specs.LineTexts.{in_comment, spaced, sorted_names, datatype_body};
+ghost use Rattle.law_texts.specs.LineTexts.{constructor_lines, comment_text, assert_text};
+ghost use Rattle.law_texts.specs.LineTexts.{define_fun_text, declare_const_text, declare_fun_text};
+ghost use Rattle.law_texts.specs.LineTexts.{declare_datatype_text, push_text};
+ghost use Rattle.law_texts.specs.LineTexts.{pop_text};
 ghost use Rattle.law_texts.specs.SharedTexts.{joined, texts, text_pairs};
 
 use crate::sink::{Sink, SinkError};
@@ -88,7 +93,8 @@ fn put_datatype<S: Sink>(
     constructors: &[Text],
 ) -> Result<(), SinkError>
     ensures { Puts S.contents S.faults S.has_room S.place sink.old sink.new
-        (datatype_body (spaced (texts params.now)) (constructor_lines (texts constructors.now))) result }
+        (datatype_body (spaced (texts params.now)) (constructor_lines (texts constructors.now)))
+        result }
 {
     if is_blank(params) {
         return put_constructors(sink, constructors);

@@ -52,7 +52,8 @@ pub trait Source {
     /// or stands at its last value.
     fn read(&mut self, buffer: &mut [u8]) -> Result<usize, SourceFault>
         requires { 0 < length buffer.old }
-        ensures { ReadsNext remaining faults never_fails place self.old self.new buffer.new result };
+        ensures { ReadsNext remaining faults never_fails place self.old self.new buffer.new
+            result };
 }
 
 /// A mutable reference to a source is a source with the same meanings.
@@ -158,7 +159,8 @@ impl MemorySource {
 
 impl Source for MemorySource {
     ghost use Rattle.smt_script.specs.Sink.{unreferenced};
-    ghost use Rattle.smt_script.specs.MemorySource.{memory_remaining, memory_faults, memory_never_fails, ReadsInMemory};
+    ghost use Rattle.smt_script.specs.MemorySource.{memory_remaining, memory_faults};
+    ghost use Rattle.smt_script.specs.MemorySource.{memory_never_fails, ReadsInMemory};
     ghost use Rattle.smt_script.specs.Source.{ReadsNext};
 
     ghost remaining = { memory_remaining };
@@ -171,8 +173,8 @@ impl Source for MemorySource {
     /// to fail.
     fn read(&mut self, buffer: &mut [u8]) -> Result<usize, SourceFault>
         requires { 0 < length buffer.old }
-        ensures reads { ReadsNext memory_remaining memory_faults memory_never_fails unreferenced self.old
-            self.new buffer.new result }
+        ensures reads { ReadsNext memory_remaining memory_faults memory_never_fails unreferenced
+            self.old self.new buffer.new result }
         ensures exact { ReadsInMemory self.old self.new buffer.new result }
     {
         self.reads = self.reads.saturating_add(1);

@@ -45,8 +45,8 @@ impl<W: Write> Sink for BufferedSink<W> {
         ensures refusal { IsOkUnless result SinkError.Fault }
 
         // where the writer tells what it holds
-        ensures written { OnOk result
-            (Appends (W.contents (buffered_writer self.old)) (W.contents (buffered_writer self.new)) bytes.now) }
+        ensures written { OnOk result (Appends (W.contents (buffered_writer self.old))
+            (W.contents (buffered_writer self.new)) bytes.now) }
     {
         if self.writer.write_all(bytes).is_err() {
             self.faults = self.faults.saturating_add(1);
@@ -57,11 +57,13 @@ impl<W: Write> Sink for BufferedSink<W> {
 
     /// Flushes the writer.
     fn flush(&mut self) -> Result<(), SinkError>
-        ensures flushes { Flushes untold buffered_faults uncertain unreferenced self.old self.new result }
+        ensures flushes { Flushes untold buffered_faults uncertain unreferenced self.old self.new
+            result }
         ensures refusal { IsOkUnless result SinkError.Fault }
 
         // where the writer tells what it holds
-        ensures written { Keeps (W.contents (buffered_writer self.old)) (W.contents (buffered_writer self.new)) }
+        ensures written { Keeps (W.contents (buffered_writer self.old))
+            (W.contents (buffered_writer self.new)) }
     {
         if self.writer.flush().is_err() {
             self.faults = self.faults.saturating_add(1);
@@ -110,8 +112,8 @@ impl<W: Write> Sink for WriteSink<W> {
         ensures refusal { IsOkUnless result SinkError.Fault }
 
         // where the writer tells what it holds
-        ensures written { OnOk result
-            (Appends (W.contents (writer_of self.old)) (W.contents (writer_of self.new)) bytes.now) }
+        ensures written { OnOk result (Appends (W.contents (writer_of self.old))
+            (W.contents (writer_of self.new)) bytes.now) }
     {
         self.buffered.put(bytes)?;
         if bytes.last() == Some(&b'\n') {
@@ -122,11 +124,13 @@ impl<W: Write> Sink for WriteSink<W> {
 
     /// Flushes the writer.
     fn flush(&mut self) -> Result<(), SinkError>
-        ensures flushes { Flushes untold write_faults uncertain unreferenced self.old self.new result }
+        ensures flushes { Flushes untold write_faults uncertain unreferenced self.old self.new
+            result }
         ensures refusal { IsOkUnless result SinkError.Fault }
 
         // where the writer tells what it holds
-        ensures written { Keeps (W.contents (writer_of self.old)) (W.contents (writer_of self.new)) }
+        ensures written { Keeps (W.contents (writer_of self.old))
+            (W.contents (writer_of self.new)) }
     {
         self.buffered.flush()
     }

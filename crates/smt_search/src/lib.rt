@@ -27,8 +27,6 @@ mod restarts;
 mod search;
 mod solving;
 mod table;
-#[cfg(test)]
-mod tests;
 mod trail;
 mod truths;
 

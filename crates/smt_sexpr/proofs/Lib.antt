@@ -9,5 +9,6 @@ pub mod PlainTexts
 pub mod PrintedTexts
 pub mod QuotedTexts
 pub mod Same
+pub mod Shapes
 pub mod Texts
 pub mod TokenLists

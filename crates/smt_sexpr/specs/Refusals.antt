@@ -6,13 +6,16 @@ use Rattle.std.specs.Str.{is_utf8}
 use Rattle.std.proofs.Math.Utf8.{scalars}
 use Rattle.law_texts.specs.Front.{begins_without, IsRun}
 use Rattle.law_texts.specs.Reads.{IsQuoted}
-use Rattle.law_texts.specs.Lexicon.{Piece, Quoted, is_symbol, is_symbol_byte, is_binary, is_hexadecimal, Bits, Number, Token, Begin, End, Word, tokens, token, quote_twice, decoded}
+use Rattle.law_texts.specs.Lexicon.{Piece, Quoted, is_symbol, is_symbol_byte, is_binary, is_hexadecimal, Bits, Number, Token, Begin, End}
+use Rattle.law_texts.specs.Lexicon.{Word, tokens, token, quote_twice, decoded}
 use Rattle.law_texts.specs.Reading.{Expression, brackets, nesting}
 use Rattle.law_texts.specs.Tokens.{StandsFirst, IsCut, AreHeld}
 use Rattle.smt_script.specs.Bytes.{bytes_in}
 use Rattle.smt_sexpr.specs.declared.error.IntFault.TheVariants.{Empty, PosOverflow}
 use Rattle.smt_sexpr.specs.declared.error.SExprParseError.{SExprParseError}
-use Rattle.smt_sexpr.specs.declared.error.SExprParseError.TheVariants.{UnexpectedEnd, Utf8Error, StringParseError, ParseIntError, UnclosedSExpr, TrailingTokens, IntegerOverflow, ZeroWidthBitVec, TooDeep, Memory}
+use Rattle.smt_sexpr.specs.declared.error.SExprParseError.TheVariants.{UnexpectedEnd, Utf8Error, StringParseError, ParseIntError}
+use Rattle.smt_sexpr.specs.declared.error.SExprParseError.TheVariants.{UnclosedSExpr, TrailingTokens, IntegerOverflow, ZeroWidthBitVec}
+use Rattle.smt_sexpr.specs.declared.error.SExprParseError.TheVariants.{TooDeep, Memory}
 
 -- ---- tokens
 
@@ -50,7 +53,8 @@ abbrev pub IsTokenFault : SExprParseError → List ℕ → Type 0
 IsTokenFault UnexpectedEnd bytes = HasNoBase bytes ⊎ HasNoEnd bytes
 IsTokenFault Utf8Error bytes = HasNoText bytes
 IsTokenFault (StringParseError raw) bytes =
-    (text rest : List ℕ) × StandsFirst bytes (Quoted text) rest × (scalars (decoded 0 text) ≡ false) × (bytes_in raw ≡ flat_map quote_twice text)
+    (text rest : List ℕ) × StandsFirst bytes (Quoted text) rest × (scalars (decoded 0 text) ≡ false)
+    × (bytes_in raw ≡ flat_map quote_twice text)
 IsTokenFault (ParseIntError Empty) bytes = HasNoDigit bytes
 IsTokenFault (ParseIntError PosOverflow) bytes = (t : Token) × BeginsWithToken bytes t × (2 ^ 128 ≤ number_of_token t)
 IsTokenFault UnclosedSExpr bytes = ⊥
@@ -81,15 +85,18 @@ open_lists lists = flat_map open_list lists
 -- The tokens begin with a bracket that closes; with more open lists than the depth; with an expression within the depth
 -- and another token; or they are where an expression within the depth could go on.
 abbrev pub IsBracketFault : SExprParseError → ℕ → List Token → Type 0
-IsBracketFault UnexpectedEnd depth ts = (e : Expression) × (t : Token) × (more : List Token) × (ts ++ t ∷ more ≡ brackets e) × (nesting e ≤ depth)
+IsBracketFault UnexpectedEnd depth ts =
+    (e : Expression) × (t : Token) × (more : List Token) × (ts ++ t ∷ more ≡ brackets e) × (nesting e ≤ depth)
 IsBracketFault Utf8Error depth ts = ⊥
 IsBracketFault (StringParseError raw) depth ts = ⊥
 IsBracketFault (ParseIntError e) depth ts = ⊥
 IsBracketFault UnclosedSExpr depth ts = (after : List Token) × (ts ≡ End ∷ after)
-IsBracketFault TrailingTokens depth ts = (e : Expression) × (t : Token) × (after : List Token) × (ts ≡ brackets e ++ t ∷ after) × (nesting e ≤ depth)
+IsBracketFault TrailingTokens depth ts =
+    (e : Expression) × (t : Token) × (after : List Token) × (ts ≡ brackets e ++ t ∷ after) × (nesting e ≤ depth)
 IsBracketFault IntegerOverflow depth ts = ⊥
 IsBracketFault ZeroWidthBitVec depth ts = ⊥
-IsBracketFault TooDeep depth ts = (lists : List (List Expression)) × (after : List Token) × (ts ≡ open_lists lists ++ after) × (depth < length lists)
+IsBracketFault TooDeep depth ts =
+    (lists : List (List Expression)) × (after : List Token) × (ts ≡ open_lists lists ++ after) × (depth < length lists)
 IsBracketFault Memory depth ts = ⊥
 
 -- All of the text is cut into pieces, and its tokens are held.

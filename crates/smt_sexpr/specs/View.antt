@@ -9,7 +9,8 @@ use Rattle.smt_bits.specs.BitVec.{width_of, number_of}
 use Rattle.smt_bits.specs.declared.bitvec.BitVec.{BitVec as Bitvector}
 use Rattle.law_texts.specs.Lexicon.{Bits, Number, Text, Name, Token, Begin, End}
 use Rattle.law_texts.specs.Reading.{Expression, Leaf, Node, Expressions, Nil, Cons, expressions, brackets, nesting}
-use Rattle.smt_sexpr.specs.declared.expression.SExpr.{SExpr, BitVec, Numeral, String, Symbol, App, App', Row_of-SExpr, end_of-SExpr, more_of-SExpr, items-the_row-SExpr, items_hidden-the_row-SExpr-0}
+use Rattle.smt_sexpr.specs.declared.expression.SExpr.{SExpr, BitVec, Numeral, String, Symbol, App, App', Row_of-SExpr, end_of-SExpr}
+use Rattle.smt_sexpr.specs.declared.expression.SExpr.{more_of-SExpr, items-the_row-SExpr, items_hidden-the_row-SExpr-0}
 use Rattle.smt_sexpr.specs.declared.expression.SExpr.TheBlock.{hidden-the_row-SExpr-0}
 use Rattle.smt_sexpr.specs.declared.expression.SExprs.{SExprs}
 use Rattle.smt_sexpr.specs.declared.token.Lexeme.{Lexeme}
@@ -36,6 +37,10 @@ items_of xs = xs.items.items
 -- what the expressions of a list say, in order
 abbrev pub plains : SExprs → List Expression
 plains xs = map plain (items_of xs)
+
+-- what expressions say, one behind the other
+abbrev pub plain_list : List SExpr → Expressions
+plain_list es = expressions (map plain es)
 
 -- What a row says is what its expressions say. This and the next are the equations of the view, by which a proof reads it.
 pub plain_row-items : {m : _} (row : Row_of-SExpr m) → plain_row row ≡ expressions (map plain (items-the_row-SExpr m row))
@@ -67,7 +72,8 @@ plain-Symbol s = refl
 pub plain-App : (xs : SExprs) → plain (App xs) ≡ Node (expressions (plains xs))
 unfolding plain plain_row
 plain-App xs =
-    ap Node (plain_row-items (hidden-the_row-SExpr-0 xs.items) ∙ ap (λ l. expressions (map plain l)) (items_hidden-the_row-SExpr-0 xs.items))
+    ap Node
+    (plain_row-items (hidden-the_row-SExpr-0 xs.items) ∙ ap (λ l. expressions (map plain l)) (items_hidden-the_row-SExpr-0 xs.items))
 
 -- these equations together, for proofs that rewrite with them
 pub ruleset views = (plain-BitVec, plain-Numeral, plain-String, plain-Symbol, plain-App)

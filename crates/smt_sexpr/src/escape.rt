@@ -1,7 +1,8 @@
 //! The characters of strings (SMT-LIB 2.7, theory UnicodeStrings).
 #![tactic(auto, using(crate::specs::View::views))]
 
-ghost use Rattle.std.specs.Prelude.{◌≡◌, ◌+◌, ◌<◌, [], ◌∷◌, length, take, drop, IfOk, IfSome, IfNone, is_some, IsTrue};
+ghost use Rattle.std.specs.Prelude.{◌≡◌, ◌+◌, ◌<◌, [], ◌∷◌, length, take, drop, IfOk, IfSome};
+ghost use Rattle.std.specs.Prelude.{IfNone, is_some, IsTrue};
 ghost use Rattle.std.specs.List.{list_all};
 ghost use Rattle.std.specs.Str.{chars};
 ghost use Rattle.std.specs.String.{string_bytes};

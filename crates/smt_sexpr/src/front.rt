@@ -2,7 +2,8 @@
 //! Lexicon).
 #![tactic(auto)]
 
-ghost use Rattle.std.specs.Prelude.{◌≡◌, ℕ, ◌<◌, ◌≤◌, ◌↔◌, [], ◌∷◌, false, length, IsTrue, IfSome, IfNone, List};
+ghost use Rattle.std.specs.Prelude.{◌≡◌, ℕ, ◌<◌, ◌≤◌, ◌↔◌, [], ◌∷◌, false, length, IsTrue, IfSome};
+ghost use Rattle.std.specs.Prelude.{IfNone, List};
 ghost use Rattle.law_texts.specs.Lexicon.{Token, Begin, End};
 ghost use Rattle.law_texts.specs.Tokens.{HasTokens, Spans};
 ghost use Rattle.smt_sexpr.specs.Pieces.{begins_blank};

@@ -2,7 +2,8 @@
 //! themselves, and numerals (SMT-LIB 2.7, chapter 3, Lexicon).
 #![tactic(auto)]
 
-ghost use Rattle.std.specs.Prelude.{◌≡◌, ◌<◌, ℕ, List, [], ◌∷◌, length, encode_utf8_all, true, IfSome, IfNone, IsTrue};
+ghost use Rattle.std.specs.Prelude.{◌≡◌, ◌<◌, ℕ, List, [], ◌∷◌, length, encode_utf8_all, true};
+ghost use Rattle.std.specs.Prelude.{IfSome, IfNone, IsTrue};
 ghost use Rattle.std.specs.List.{list_all};
 ghost use Rattle.std.specs.Str.{IsAscii};
 ghost use Rattle.std.proofs.Math.Utf8.{scalars};
@@ -12,7 +13,8 @@ ghost use Rattle.law_texts.specs.Tokens.{Spans, StandsFirst};
 ghost use Rattle.smt_sexpr.specs.Pieces.{HasPlainText, StandsFor, begins_symbol, stands_as_itself};
 ghost use Rattle.smt_sexpr.specs.Refusals.{IsTokenFault};
 ghost use Rattle.smt_sexpr.specs.declared.error.IntFault.TheVariants.{PosOverflow};
-ghost use Rattle.smt_sexpr.specs.declared.error.SExprParseError.TheVariants.{Utf8Error, ParseIntError};
+ghost use Rattle.smt_sexpr.specs.declared.error.SExprParseError.TheVariants.{Utf8Error};
+ghost use Rattle.smt_sexpr.specs.declared.error.SExprParseError.TheVariants.{ParseIntError};
 
 use crate::front::without_blanks;
 use crate::lexeme::{goes_on_symbol, plain_len, symbol_len};
@@ -66,9 +68,12 @@ pub(crate) fn numeral(src: &[u8]) -> Option<(u128, &[u8])>
 // The string whose opening quote stands before the text, where each of its characters is ASCII and stands as itself, and what
 // follows its closing quote.
 fn plain_text(src: &[u8]) -> Option<(&str, &[u8])>
-    ensures found { IfSome result (λ x. StandsFor (Word (Text x.0.now) ∷ []) (34 ∷ src.now) x.1.now) }
+    ensures found { IfSome result
+        (λ x. StandsFor (Word (Text x.0.now) ∷ []) (34 ∷ src.now) x.1.now) }
     ensures ascii { IfSome result (λ x. IsAscii x.0.now) }
-    ensures none { IfNone result ((text rest : List ℕ) → StandsFirst (34 ∷ src.now) (Quoted text) rest → IsTrue (list_all stands_as_itself text) → ⊥) }
+    ensures none { IfNone result ((text rest : List ℕ) →
+        StandsFirst (34 ∷ src.now) (Quoted text) rest → IsTrue (list_all stands_as_itself text) →
+        ⊥) }
 {
     let (bytes, end) = src.split_at(plain_len(src));
     let rest = behind(end, b'"')?;
@@ -86,7 +91,8 @@ fn plain_text(src: &[u8]) -> Option<(&str, &[u8])>
 /// space and comments may stand before it. Takes no memory.
 pub fn name_at(src: &[u8]) -> Option<(&str, &[u8])>
     ensures found { IfSome result (λ x. Spans src.now (Word (Name x.0.now) ∷ []) x.1.now) }
-    ensures none { IfNone result ((name rest : List ℕ) → Spans src.now (Word (Name name) ∷ []) rest → ⊥) }
+    ensures none { IfNone result
+        ((name rest : List ℕ) → Spans src.now (Word (Name name) ∷ []) rest → ⊥) }
     ensures shorter { IfSome result (λ x. length x.1.now < length src.now) }
 {
     let text = without_blanks(src);
@@ -114,7 +120,8 @@ pub fn plain_text_at(src: &[u8]) -> Option<(&str, &[u8])>
 /// and comments may stand before it. Takes no memory.
 pub fn number_at(src: &[u8]) -> Option<(u128, &[u8])>
     ensures found { IfSome result (λ x. Spans src.now (Word (Number x.0) ∷ []) x.1.now) }
-    ensures none { IfNone result ((number : ℕ) (rest : List ℕ) → Spans src.now (Word (Number number) ∷ []) rest → ⊥) }
+    ensures none { IfNone result
+        ((number : ℕ) (rest : List ℕ) → Spans src.now (Word (Number number) ∷ []) rest → ⊥) }
     ensures shorter { IfSome result (λ x. length x.1.now < length src.now) }
 {
     let text = without_blanks(src);

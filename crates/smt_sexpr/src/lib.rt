@@ -14,6 +14,7 @@ pub mod laws;
 mod lexeme;
 mod number;
 pub mod parse;
+pub mod parts;
 mod printed;
 pub mod quote;
 mod token;
@@ -23,5 +24,9 @@ pub use expression::{SExpr, SExprs};
 pub use front::{behind_close, behind_open, is_blank};
 pub use front_atoms::{name_at, number_at, plain_text_at};
 pub use parse::{parse_sexpr, parse_sexpr_within, read_next};
+pub use parts::{
+    both, first_apart, first_in, inside_of, name_in, number_in, pair_in, section, sole, sole_in,
+    sole_text, text_in, three, triple_in,
+};
 pub use quote::quote_string;
 pub use smt_text::Text;

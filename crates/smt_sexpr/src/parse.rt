@@ -1,14 +1,17 @@
 //! The reader of texts that hold one expression (SMT-LIB 2.7, chapter 3, Lexicon and S-expressions).
 #![tactic(auto, using(crate::specs::View::views))]
 
-ghost use Rattle.std.specs.Prelude.{◌≡◌, ◌≢◌, ◌+◌, ◌<◌, ◌≤◌, ◌&&◌, ◌⊎◌, Bool, true, false, [], ◌∷◌, ◌++◌, List, length, IfOk, IfErr, IfSome, IfNone};
+ghost use Rattle.std.specs.Prelude.{◌≡◌, ◌≢◌, ◌+◌, ◌<◌, ◌≤◌, ◌&&◌, ◌⊎◌, Bool, true, false, [], ◌∷◌};
+ghost use Rattle.std.specs.Prelude.{◌++◌, List, length, IfOk, IfErr};
+ghost use Rattle.std.specs.Prelude.{IfSome, IfNone};
 ghost use Rattle.law_texts.specs.Lexicon.{Token, Begin, End};
 ghost use Rattle.law_texts.specs.Reading.{Expression, brackets, nesting};
 ghost use Rattle.law_texts.specs.Tokens.{HasTokens, IsReadWithin, IsRead, Spans};
 ghost use Rattle.smt_sexpr.specs.OpenLists.{Adds, IsNext, IsScanned, IsStepFault, levels};
 ghost use Rattle.smt_sexpr.specs.Refusals.{HasTokenFault, IsRefused, open_lists};
 ghost use Rattle.smt_sexpr.specs.View.{plain, lexeme_nesting, lexeme_tokens, lists_in};
-ghost use Rattle.smt_sexpr.specs.declared.error.SExprParseError.TheVariants.{TrailingTokens, TooDeep, Memory};
+ghost use Rattle.smt_sexpr.specs.declared.error.SExprParseError.TheVariants.{TrailingTokens};
+ghost use Rattle.smt_sexpr.specs.declared.error.SExprParseError.TheVariants.{TooDeep, Memory};
 
 use crate::error::SExprParseError;
 use crate::expression::{SExpr, SExprs};
@@ -17,7 +20,8 @@ use std::alloc::Global;
 
 fn has_no_token(lexeme: &Lexeme) -> bool
     ensures blank { result ≡ true → lexeme_tokens lexeme.now ≡ [] }
-    ensures token { result ≡ false → (t : Token) × (ts : List Token) × (lexeme_tokens lexeme.now ≡ t ∷ ts) }
+    ensures token { result ≡ false →
+        (t : Token) × (ts : List Token) × (lexeme_tokens lexeme.now ≡ t ∷ ts) }
 {
     match lexeme {
         Lexeme::Blank => true,
@@ -30,7 +34,8 @@ fn has_no_token(lexeme: &Lexeme) -> bool
 // Lets a piece go, and says whether it was blank.
 fn was_blank(lexeme: Lexeme) -> bool
     ensures blank { result ≡ true → lexeme_tokens lexeme ≡ [] }
-    ensures token { result ≡ false → (t : Token) × (ts : List Token) × (lexeme_tokens lexeme ≡ t ∷ ts) }
+    ensures token { result ≡ false →
+        (t : Token) × (ts : List Token) × (lexeme_tokens lexeme ≡ t ∷ ts) }
 {
     has_no_token(&lexeme)
 }
@@ -62,7 +67,8 @@ fn has_no_tokens(alloc: Global, src: &[u8]) -> Result<bool, SExprParseError>
 
 // The refusal of brackets, unless what follows them has a token fault.
 fn refused(alloc: Global, rest: &[u8], fault: SExprParseError) -> SExprParseError
-    ensures { HasTokenFault result rest.now ⊎ ((result ≡ fault) × ((blank : Bool) × IsScanned blank rest.now [])) }
+    ensures { HasTokenFault result rest.now
+        ⊎ ((result ≡ fault) × ((blank : Bool) × IsScanned blank rest.now [])) }
 {
     match has_no_tokens(alloc, rest) {
         Ok(_) => fault,
@@ -73,7 +79,8 @@ fn refused(alloc: Global, rest: &[u8], fault: SExprParseError) -> SExprParseErro
 // The expression, where no token follows it.
 fn finish(alloc: Global, rest: &[u8], expression: SExpr) -> Result<SExpr, SExprParseError>
     ensures found { IfOk result (λ e. (e ≡ expression) × IsScanned true rest.now []) }
-    ensures fault { IfErr result (λ e. HasTokenFault e rest.now ⊎ ((e ≡ TrailingTokens) × IsScanned false rest.now [])) }
+    ensures fault { IfErr result
+        (λ e. HasTokenFault e rest.now ⊎ ((e ≡ TrailingTokens) × IsScanned false rest.now [])) }
 {
     match has_no_tokens(alloc, rest) {
         Ok(true) => Ok(expression),
@@ -84,8 +91,10 @@ fn finish(alloc: Global, rest: &[u8], expression: SExpr) -> Result<SExpr, SExprP
 
 // Puts an expression into the innermost list that is open, or gives it back where none is.
 fn put(lists: &mut Vec<SExprs>, item: SExpr) -> Result<Option<SExpr>, SExprParseError>
-    ensures inside { IfOk result (λ o. IfNone o (Adds (plain item) (lists_in lists.old.items) (lists_in lists.new.items))) }
-    ensures whole { IfOk result (λ o. IfSome o (λ e. (e ≡ item) × (lists_in lists.old.items ≡ []))) }
+    ensures inside { IfOk result
+        (λ o. IfNone o (Adds (plain item) (lists_in lists.old.items) (lists_in lists.new.items))) }
+    ensures whole { IfOk result
+        (λ o. IfSome o (λ e. (e ≡ item) × (lists_in lists.old.items ≡ []))) }
     ensures error { IfErr result (λ e. e ≡ Memory) }
 {
     let Some(mut items) = lists.pop() else {
@@ -104,7 +113,9 @@ fn add(
 ) -> Result<Option<SExpr>, SExprParseError>
     requires shallow { levels (lists_in lists.old.items) ≤ max_depth }
     requires item_shallow { nesting (plain item) + length (lists_in lists.old.items) ≤ max_depth }
-    ensures next { IfOk result (λ o. IsNext o max_depth (lists_in lists.old.items) (brackets (plain item)) (lists_in lists.new.items)) }
+    ensures next { IfOk result (λ o.
+        IsNext o max_depth (lists_in lists.old.items) (brackets (plain item))
+        (lists_in lists.new.items)) }
     ensures error { IfErr result (λ e. e ≡ Memory) }
 {
     match put(lists, item) {
@@ -121,8 +132,10 @@ fn begin(
     max_depth: usize,
 ) -> Result<Option<SExpr>, SExprParseError>
     requires { levels (lists_in lists.old.items) ≤ max_depth }
-    ensures next { IfOk result (λ o. IsNext o max_depth (lists_in lists.old.items) (Begin ∷ []) (lists_in lists.new.items)) }
-    ensures fault { IfErr result (λ e. IsStepFault e max_depth (open_lists (lists_in lists.old.items) ++ Begin ∷ [])) }
+    ensures next { IfOk result (λ o.
+        IsNext o max_depth (lists_in lists.old.items) (Begin ∷ []) (lists_in lists.new.items)) }
+    ensures fault { IfErr result
+        (λ e. IsStepFault e max_depth (open_lists (lists_in lists.old.items) ++ Begin ∷ [])) }
 {
     if lists.len() >= max_depth {
         return Err(SExprParseError::TooDeep);
@@ -134,8 +147,10 @@ fn begin(
 // Closes the innermost list that is open.
 fn end(lists: &mut Vec<SExprs>, max_depth: usize) -> Result<Option<SExpr>, SExprParseError>
     requires { levels (lists_in lists.old.items) ≤ max_depth }
-    ensures next { IfOk result (λ o. IsNext o max_depth (lists_in lists.old.items) (End ∷ []) (lists_in lists.new.items)) }
-    ensures fault { IfErr result (λ e. IsStepFault e max_depth (open_lists (lists_in lists.old.items) ++ End ∷ [])) }
+    ensures next { IfOk result
+        (λ o. IsNext o max_depth (lists_in lists.old.items) (End ∷ []) (lists_in lists.new.items)) }
+    ensures fault { IfErr result
+        (λ e. IsStepFault e max_depth (open_lists (lists_in lists.old.items) ++ End ∷ [])) }
 {
     let Some(items) = lists.pop() else {
         return Err(SExprParseError::UnclosedSExpr);
@@ -155,8 +170,11 @@ fn step(
 ) -> Result<Option<SExpr>, SExprParseError>
     requires shallow { levels (lists_in lists.old.items) ≤ max_depth }
     requires atomic { lexeme_nesting lexeme ≡ 0 }
-    ensures next { IfOk result (λ o. IsNext o max_depth (lists_in lists.old.items) (lexeme_tokens lexeme) (lists_in lists.new.items)) }
-    ensures fault { IfErr result (λ e. IsStepFault e max_depth (open_lists (lists_in lists.old.items) ++ lexeme_tokens lexeme)) }
+    ensures next { IfOk result (λ o.
+        IsNext o max_depth (lists_in lists.old.items) (lexeme_tokens lexeme)
+        (lists_in lists.new.items)) }
+    ensures fault { IfErr result (λ e.
+        IsStepFault e max_depth (open_lists (lists_in lists.old.items) ++ lexeme_tokens lexeme)) }
 {
     match lexeme {
         Lexeme::Blank => Ok(None),
@@ -184,7 +202,9 @@ pub fn read_next(
     ensures shallow { IfOk result (λ x. nesting (plain x.0) ≤ max_depth) }
     ensures shorter { IfOk result (λ x. length x.1.now < length src.now) }
     ensures refused { IfErr result (λ fault. IsRefused fault max_depth src.now) }
-    ensures complete { IfErr result (λ fault. (e : Expression) (ts : List Token) → HasTokens src.now (brackets e ++ ts) → nesting e ≤ max_depth → fault ≡ Memory) }
+    ensures complete { IfErr result (λ fault.
+        (e : Expression) (ts : List Token) → HasTokens src.now (brackets e ++ ts) →
+        nesting e ≤ max_depth → fault ≡ Memory) }
 {
     let mut lists: Vec<SExprs> = Vec::new(alloc);
     let mut rest = src;
@@ -234,7 +254,8 @@ pub fn parse_sexpr_within(
 ) -> Result<SExpr, SExprParseError>
     ensures found { IfOk result (λ e. IsReadWithin src.now max_depth (plain e)) }
     ensures refused { IfErr result (λ fault. IsRefused fault max_depth src.now) }
-    ensures complete { IfErr result (λ fault. (e : Expression) → IsReadWithin src.now max_depth e → fault ≡ Memory) }
+    ensures complete { IfErr result
+        (λ fault. (e : Expression) → IsReadWithin src.now max_depth e → fault ≡ Memory) }
 {
     match read_one(alloc, src, max_depth) {
         Ok(expression) => Ok(expression),
@@ -262,7 +283,8 @@ pub fn parse_sexpr(alloc: Global, src: &[u8]) -> Result<SExpr, SExprParseError>
     ensures found { IfOk result (λ e. IsRead src.now (plain e)) }
     ensures refused { IfErr result (λ fault. IsRefused fault (length src.now) src.now) }
     ensures not_too_deep { IfErr result (λ fault. fault ≢ TooDeep) }
-    ensures complete { IfErr result (λ fault. (e : Expression) → IsRead src.now e → fault ≡ Memory) }
+    ensures complete { IfErr result
+        (λ fault. (e : Expression) → IsRead src.now e → fault ≡ Memory) }
 {
     match read_one(alloc, src, src.len()) {
         Ok(expression) => Ok(expression),

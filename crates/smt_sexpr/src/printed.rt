@@ -6,7 +6,8 @@ ghost use Rattle.std.specs.Fmt.{WritesOnOk};
 ghost use Rattle.std.specs.Str.{chars};
 ghost use Rattle.smt_bits.specs.BitVec.{number_of, width_of};
 ghost use Rattle.law_texts.specs.Reading.{expressions};
-ghost use Rattle.smt_sexpr.specs.Printed.{expression_text, expression_texts, list_text, string_text, bitvector_text};
+ghost use Rattle.smt_sexpr.specs.Printed.{expression_text, expression_texts, list_text};
+ghost use Rattle.smt_sexpr.specs.Printed.{string_text, bitvector_text};
 ghost use Rattle.law_texts.specs.LineTexts.{spaced};
 ghost use Rattle.smt_sexpr.specs.View.{plain};
 
@@ -31,7 +32,8 @@ impl fmt::Display for SExpr {
 
 // `BitVec { width: 2, v: 1 }`.
 fn put_literal<W: fmt::Write>(literal: BitVec, f: &mut fmt::Formatter<W>) -> fmt::Result
-    ensures { WritesOnOk W.write_str_gives f.old result (bitvector_text (width_of literal) (number_of literal)) f.new }
+    ensures { WritesOnOk W.write_str_gives f.old result
+        (bitvector_text (width_of literal) (number_of literal)) f.new }
 {
     let width = literal.width().get();
     let number = literal.to_nat();
@@ -48,7 +50,8 @@ fn put_string<W: fmt::Write>(text: &str, f: &mut fmt::Formatter<W>) -> fmt::Resu
 // An expression.
 #[cycle(print)]
 fn put_expression<W: fmt::Write>(expression: &SExpr, f: &mut fmt::Formatter<W>) -> fmt::Result
-    ensures { WritesOnOk W.write_str_gives f.old result (expression_text (plain expression.now)) f.new }
+    ensures { WritesOnOk W.write_str_gives f.old result (expression_text (plain expression.now))
+        f.new }
 {
     match expression {
         SExpr::BitVec(literal) => put_literal(*literal, f),
@@ -62,7 +65,8 @@ fn put_expression<W: fmt::Write>(expression: &SExpr, f: &mut fmt::Formatter<W>) 
 // `(a b)`, or `()`.
 #[cycle(print)]
 fn put_list<W: fmt::Write>(items: &[SExpr], f: &mut fmt::Formatter<W>) -> fmt::Result
-    ensures { WritesOnOk W.write_str_gives f.old result (list_text (expression_texts (expressions (map plain items.now)))) f.new }
+    ensures { WritesOnOk W.write_str_gives f.old result
+        (list_text (expression_texts (expressions (map plain items.now)))) f.new }
 {
     f.write_str("(")?;
     put_items(items, f)?;
@@ -72,7 +76,8 @@ fn put_list<W: fmt::Write>(items: &[SExpr], f: &mut fmt::Formatter<W>) -> fmt::R
 // `a b`.
 #[cycle(print)]
 fn put_items<W: fmt::Write>(items: &[SExpr], f: &mut fmt::Formatter<W>) -> fmt::Result
-    ensures { WritesOnOk W.write_str_gives f.old result (spaced (expression_texts (expressions (map plain items.now)))) f.new }
+    ensures { WritesOnOk W.write_str_gives f.old result
+        (spaced (expression_texts (expressions (map plain items.now)))) f.new }
 {
     let mut gap = "";
     for item in items {

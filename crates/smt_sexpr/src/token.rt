@@ -57,7 +57,8 @@ fn hexadecimal_len(src: &[u8]) -> usize
 
 // The literal whose digits stand behind `#b`, and what follows it.
 fn split_binary(src: &[u8]) -> Result<(SExpr, &[u8]), SExprParseError>
-    ensures found { IfOk result (λ x. StandsFor (brackets (plain x.0)) (35 ∷ 98 ∷ src.now) x.1.now) }
+    ensures found { IfOk result
+        (λ x. StandsFor (brackets (plain x.0)) (35 ∷ 98 ∷ src.now) x.1.now) }
     ensures fault { IfErr result (λ e. IsTokenFault e (35 ∷ 98 ∷ src.now)) }
 {
     let (digits, rest) = src.split_at(binary_len(src));
@@ -69,7 +70,8 @@ fn split_binary(src: &[u8]) -> Result<(SExpr, &[u8]), SExprParseError>
 
 // The literal whose digits stand behind `#x`, and what follows it.
 fn split_hexadecimal(src: &[u8]) -> Result<(SExpr, &[u8]), SExprParseError>
-    ensures found { IfOk result (λ x. StandsFor (brackets (plain x.0)) (35 ∷ 120 ∷ src.now) x.1.now) }
+    ensures found { IfOk result
+        (λ x. StandsFor (brackets (plain x.0)) (35 ∷ 120 ∷ src.now) x.1.now) }
     ensures fault { IfErr result (λ e. IsTokenFault e (35 ∷ 120 ∷ src.now)) }
 {
     let (digits, rest) = src.split_at(hexadecimal_len(src));

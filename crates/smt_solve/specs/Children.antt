@@ -1,5 +1,6 @@
 -- What a link to a child, a process of the system, tells, and what its calls do to it, exactly.
-use Rattle.std.specs.Prelude.{ℕ, ◌≡◌, ⊤, true, ℤ, List, [], IfOk, is_some, option_map, option_and_then, unwrap_or, None, Option, Some, Ok, Err, Result}
+use Rattle.std.specs.Prelude.{ℕ, ◌≡◌, ⊤, true, ℤ, List, [], IfOk, is_some, option_map, option_and_then, unwrap_or, None, Option, Some, Ok}
+use Rattle.std.specs.Prelude.{Err, Result}
 use Rattle.std.specs.Io.Buffered.{reader_remaining, writer_buffer, writer_contents}
 use Rattle.std.specs.Process.{child_status, exit_code}
 use Rattle.std.specs.declared.process.status.ExitStatus.{ExitStatus}

@@ -15,7 +15,8 @@ StepsAs (Ended end) piece room = EndsAs end piece room None
 
 -- A step of reading appended a piece of a line. `left` is what the reader had to give before it, and `left'` after it, where it
 -- tells these.
-pub record AppendsStep {E : Type 0} (left left' : Option (List ℕ)) (before after : List ℕ) (room : ℕ) (result : Result Step E) : Type 0 where
+pub record AppendsStep {E : Type 0} (left left' : Option (List ℕ)) (before after : List ℕ) (room : ℕ) (result : Result Step E) :
+    Type 0 where
   pub piece : List ℕ
   pub appended : after ≡ before ++ piece
   -- the piece, and no other bytes, was taken from the reader
@@ -25,7 +26,8 @@ pub record AppendsStep {E : Type 0} (left left' : Option (List ℕ)) (before aft
 
 -- A line of at most `limit` bytes was appended, or on an error some bytes. `left` is what the reader had to give before, and
 -- `left'` after, where it tells these.
-pub record AppendsLine {E : Type 0} (left left' : Option (List ℕ)) (before after : List ℕ) (limit : ℕ) (result : Result LineEnd E) : Type 0 where
+pub record AppendsLine {E : Type 0} (left left' : Option (List ℕ)) (before after : List ℕ) (limit : ℕ) (result : Result LineEnd E) :
+    Type 0 where
   pub piece : List ℕ
   pub appended : after ≡ before ++ piece
   -- the piece, and no other bytes, was taken from the reader

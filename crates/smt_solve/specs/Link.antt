@@ -1,5 +1,6 @@
 -- What a link to a solver tells, and what its calls do to it.
-use Rattle.std.specs.Prelude.{ℕ, ◌<◌, ◌≤◌, ◌≡◌, ◌≢◌, ⊤, Bool, true, false, List, [], ◌∷◌, ◌++◌, length, All, IfOk, IfSome, IsErrOf, OnOk, OnErr, is_some, ◌⊎◌, Option, None, Some, Result}
+use Rattle.std.specs.Prelude.{ℕ, ◌<◌, ◌≤◌, ◌≡◌, ◌≢◌, ⊤, Bool, true, false, List, [], ◌∷◌, ◌++◌, length, All, IfOk, IfSome, IsErrOf, OnOk}
+use Rattle.std.specs.Prelude.{OnErr, is_some, ◌⊎◌, Option, None, Some, Result}
 use Rattle.std.specs.Option.{option_map}
 use Rattle.std.specs.Io.KnownBytes.{append_known, prepend_known}
 use Rattle.smt_script.specs.Sink.{AppendsPart, Rose}
@@ -118,7 +119,8 @@ pub record HandsOn {T : Type 0} (old new : LinkState) (result : Result T LinkErr
   pub counts : Counts old new result
 
 -- A call reads a line of at most `limit` bytes, and appends it to the bytes `before`, which become `after`.
-pub record ReadsLine (allows : List ℕ → List ℕ → List ℕ → Type 0) (old new : LinkState) (before after : List ℕ) (limit : ℕ) (result : Result LineEnd LinkError) : Type 0 where
+pub record ReadsLine (allows : List ℕ → List ℕ → List ℕ → Type 0) (old new : LinkState) (before after : List ℕ) (limit : ℕ)
+    (result : Result LineEnd LinkError) : Type 0 where
   pub piece : List ℕ
   pub appended : after ≡ before ++ piece
   -- the piece, and no other bytes, moved from what is to come to what was read

@@ -50,7 +50,10 @@ ended_with (Some code) = Code code
 
 -- A link in memory was just made: no call was made on it, and it has these answers to come, these calls to fail, and this end.
 pub record IsNew (s : MemoryLink) (answers fails : List ℕ) (ends : Option ℤ) : Type 0 where
-  pub state : memory_state s ≡ record { sent = Some []; was_read = Some []; to_come = Some answers; ended = Some (ended_with ends); killed = Some false; faults = 0 }
+  pub state :
+      memory_state s
+      ≡ record
+      { sent = Some []; was_read = Some []; to_come = Some answers; ended = Some (ended_with ends); killed = Some false; faults = 0 }
   pub calls : memory_calls s ≡ 0
   pub fails_given : memory_fails s ≡ fails
 

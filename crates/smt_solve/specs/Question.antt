@@ -1,5 +1,6 @@
 -- What is asked of the solver of a link, and what comes of it.
-use Rattle.std.specs.Prelude.{ℕ, ◌<◌, ◌≤◌, ◌≡◌, ◌≢◌, ◌⊎◌, ⊤, IsTrue, List, [], length, MatchBool, MatchResult, IfOk, IfSome, IfErr, IsErr, OnOk, is_some, Result}
+use Rattle.std.specs.Prelude.{ℕ, ◌<◌, ◌≤◌, ◌≡◌, ◌≢◌, ◌⊎◌, ⊤, IsTrue, List, [], length, MatchBool, MatchResult, IfOk, IfSome, IfErr, IsErr}
+use Rattle.std.specs.Prelude.{OnOk, is_some, Result}
 use Rattle.std.specs.Io.KnownBytes.{append_known}
 use Rattle.std.specs.Rc.{rc_str_bytes}
 use Rattle.std.specs.Str.{IsUtf8}
@@ -9,7 +10,8 @@ use Rattle.smt_solve.specs.Answers.{IsNoDecision, IsNoError, StripsTo, decision_
 use Rattle.smt_solve.specs.Link.{HasNoLineFeed, IsAllowed, IsKilled, IsLine, IsOver, KeepsEnd, LinkState}
 use Rattle.smt_solve.specs.declared.answer.Decision.{Decision}
 use Rattle.smt_solve.specs.declared.error.SolverError.{SolverError}
-use Rattle.smt_solve.specs.declared.error.SolverError.TheVariants.{Io, Solver, UnrecognizedSolverOutput, SolverMarkedFailed, AnswerTooLong, Memory}
+use Rattle.smt_solve.specs.declared.error.SolverError.TheVariants.{Io, Solver, UnrecognizedSolverOutput, SolverMarkedFailed, AnswerTooLong}
+use Rattle.smt_solve.specs.declared.error.SolverError.TheVariants.{Memory}
 use Rattle.smt_solve.specs.declared.link.Ended.{Ended}
 use Rattle.smt_solve.specs.declared.link.Ended.TheVariants.{Running, Killed}
 
@@ -89,17 +91,20 @@ KillsFor message old new = MatchBool (is_parse_error message) (IsKilled old new)
 
 -- The line that was read last tells of an error with this message.
 abbrev pub TellsError : (judged : List ℕ → Type 0) → (old new : LinkState) → (message : List ℕ) → Type 0
-TellsError judged old new message = (line : List ℕ) × judged line × IsNotLong line × StripsTo line (error_line message) × KillsFor message old new
+TellsError judged old new message =
+    (line : List ℕ) × judged line × IsNotLong line × StripsTo line (error_line message) × KillsFor message old new
 
 -- The line that was read last says something that is not expected, and tells of no error. The solver was not killed.
 abbrev pub SaysOther : (judged other : List ℕ → Type 0) → (old new : LinkState) → (said : List ℕ) → Type 0
-SaysOther judged other old new said = (line : List ℕ) × judged line × IsNotLong line × (line ≢ []) × StripsTo line said × other said × IsNoError said × Spares old new
+SaysOther judged other old new said =
+    (line : List ℕ) × judged line × IsNotLong line × (line ≢ []) × StripsTo line said × other said × IsNoError said × Spares old new
 
 -- Why there is no answer, where `reads` says of bytes that they were read last, `judged` that they were read last as a line
 -- that decides, and `other` of a text that it is not expected.
 abbrev pub Refuses : (reads judged other : List ℕ → Type 0) → (old new : LinkState) → SolverError → Type 0
 Refuses reads judged other old new Io = Rose old.faults new.faults ⊎ IsNoText reads old new
-Refuses reads judged other old new (Solver message) = EndsEarly reads old new (rc_str_bytes message) ⊎ TellsError judged old new (rc_str_bytes message)
+Refuses reads judged other old new (Solver message) =
+    EndsEarly reads old new (rc_str_bytes message) ⊎ TellsError judged old new (rc_str_bytes message)
 Refuses reads judged other old new (UnrecognizedSolverOutput message) = SaysOther judged other old new (rc_str_bytes message)
 Refuses reads judged other old new SolverMarkedFailed = ⊥
 Refuses reads judged other old new AnswerTooLong = IsTooLong reads old new
@@ -108,11 +113,13 @@ Refuses reads judged other old new Memory = ⊤
 -- The bytes that were read are a reason to kill the solver: the answers ended behind them, or they say that the solver could
 -- not read what it was sent.
 abbrev pub CallsForKill : (begins : List ℕ → Type 0) → (new : LinkState) → (bytes : List ℕ) → Type 0
-CallsForKill begins new bytes = (begins bytes × AnswersEnded new) ⊎ ((message : List ℕ) × StripsTo bytes (error_line message) × IsTrue (is_parse_error message))
+CallsForKill begins new bytes =
+    (begins bytes × AnswersEnded new) ⊎ ((message : List ℕ) × StripsTo bytes (error_line message) × IsTrue (is_parse_error message))
 
 -- The solver is killed only where all of this text was sent and what was read is a reason to kill it.
 abbrev pub KillsOnly : (begins : List ℕ → Type 0) → (old new : LinkState) → (text : List ℕ) → Type 0
-KillsOnly begins old new text = Spares old new ⊎ ((bytes : List ℕ) × Exchanges old new text bytes × CallsForKill begins new bytes × IsKilled old new)
+KillsOnly begins old new text =
+    Spares old new ⊎ ((bytes : List ℕ) × Exchanges old new text bytes × CallsForKill begins new bytes × IsKilled old new)
 
 -- There are no bytes.
 abbrev pub IsNothing : List ℕ → Type 0
@@ -152,9 +159,12 @@ RefusesEnded old new AnswerTooLong = ⊥
 RefusesEnded old new Memory = ⊤
 
 -- A call asks a solver for a decision: it is sent `(check-sat)`, and answers by one line (SMT-LIB 2.7, chapter 4).
-pub record AsksDecision (allows : List ℕ → List ℕ → List ℕ → Type 0) (old new : LinkState) (result : Result Decision SolverError) : Type 0 where
+pub record AsksDecision (allows : List ℕ → List ℕ → List ℕ → Type 0) (old new : LinkState) (result : Result Decision SolverError) :
+    Type 0 where
   pub ok : IfOk result (λ decision. Answers allows old new check_sat_text (decision_word decision))
-  pub err : IfErr result (λ e. RefusesEnded old new e ⊎ Refuses (Exchanges old new check_sat_text) (Exchanges old new check_sat_text) IsNoDecision old new e)
+  pub err :
+      IfErr result
+      (λ e. RefusesEnded old new e ⊎ Refuses (Exchanges old new check_sat_text) (Exchanges old new check_sat_text) IsNoDecision old new e)
   -- a solver that had ended is not asked
   pub ended : IfSome old.ended (λ how. how ≢ Running → IsNotAsked old new how result)
   pub begun : BeginsExchange old new check_sat_text
@@ -175,7 +185,8 @@ pub record AsksRunning {T : Type 0} (old new : LinkState) (result : Result T Sol
   pub spared : Spares old new
 
 -- A step asks a solver that runs for a decision.
-pub record AsksRunner (allows : List ℕ → List ℕ → List ℕ → Type 0) (old new : LinkState) (result : Result Decision SolverError) : Type 0 where
+pub record AsksRunner (allows : List ℕ → List ℕ → List ℕ → Type 0) (old new : LinkState) (result : Result Decision SolverError) :
+    Type 0 where
   pub ok : IfOk result (λ decision. Answers allows old new check_sat_text (decision_word decision))
   pub err : IfErr result (Refuses (Exchanges old new check_sat_text) (Exchanges old new check_sat_text) IsNoDecision old new)
   pub begun : BeginsExchange old new check_sat_text
@@ -210,7 +221,8 @@ pub record KillsLink {T : Type 0} (old new : LinkState) (result : Result T Solve
   pub left : Leaves old new
 
 -- A step reads a line, which has no byte where the answers have ended.
-pub record ReadsReply {T : Type 0} (allows : List ℕ → List ℕ → List ℕ → Type 0) (old new : LinkState) (line : T → List ℕ) (result : Result T SolverError) : Type 0 where
+pub record ReadsReply {T : Type 0} (allows : List ℕ → List ℕ → List ℕ → Type 0) (old new : LinkState) (line : T → List ℕ)
+    (result : Result T SolverError) : Type 0 where
   pub ok : IfOk result (λ x. IsReply allows old new [] (line x))
   pub err : IfErr result (Refuses (Exchanges old new []) IsNever IsNever old new)
   pub begun : BeginsExchange old new []
@@ -223,14 +235,17 @@ abbrev pub RefusesLine : (other : List ℕ → Type 0) → (line : List ℕ) →
 RefusesLine other line old new Io = Rose old.faults new.faults ⊎ ((IsUtf8 line → ⊥) × Spares old new)
 RefusesLine other line old new (Solver message) = ((line ≡ []) × (rc_str_bytes message ≡ end_message Killed) × IsKilled old new)
     ⊎ (StripsTo line (error_line (rc_str_bytes message)) × KillsFor (rc_str_bytes message) old new)
-RefusesLine other line old new (UnrecognizedSolverOutput message) = (line ≢ []) × StripsTo line (rc_str_bytes message) × other (rc_str_bytes message) × IsNoError (rc_str_bytes message) × Spares old new
+RefusesLine other line old new (UnrecognizedSolverOutput message) =
+    (line ≢ []) × StripsTo line (rc_str_bytes message) × other (rc_str_bytes message) × IsNoError (rc_str_bytes message) × Spares old new
 RefusesLine other line old new SolverMarkedFailed = ⊥
 RefusesLine other line old new AnswerTooLong = ⊥
 RefusesLine other line old new Memory = ⊤
 
 -- The solver is killed only for a line that has no byte, or that says that the solver could not read what it was sent.
 abbrev pub KillsForLine : (line : List ℕ) → (old new : LinkState) → Type 0
-KillsForLine line old new = Spares old new ⊎ (((line ≡ []) ⊎ ((message : List ℕ) × StripsTo line (error_line message) × IsTrue (is_parse_error message))) × IsKilled old new)
+KillsForLine line old new =
+    Spares old new
+    ⊎ (((line ≡ []) ⊎ ((message : List ℕ) × StripsTo line (error_line message) × IsTrue (is_parse_error message))) × IsKilled old new)
 
 -- The error by which a line that was read is refused. Nothing more is sent or read for it.
 pub record GivesRefusal (other : List ℕ → Type 0) (line : List ℕ) (old new : LinkState) (e : SolverError) : Type 0 where
@@ -239,7 +254,8 @@ pub record GivesRefusal (other : List ℕ → Type 0) (line : List ℕ) (old new
   pub kills : KillsForLine line old new
 
 -- A step judges a line that was read: Ok gives what is good, and an error says why the line is refused.
-pub record JudgesLine {T : Type 0} (good : T → Type 0) (other : List ℕ → Type 0) (line : List ℕ) (old new : LinkState) (result : Result T SolverError) : Type 0 where
+pub record JudgesLine {T : Type 0} (good : T → Type 0) (other : List ℕ → Type 0) (line : List ℕ) (old new : LinkState)
+    (result : Result T SolverError) : Type 0 where
   pub ok : IfOk result (λ x. good x × Spares old new × Leaves old new)
   pub err : IfErr result (GivesRefusal other line old new)
 

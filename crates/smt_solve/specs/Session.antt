@@ -1,5 +1,6 @@
 -- What a session over a link has, and how it starts.
-use Rattle.std.specs.Prelude.{ℕ, ◌+◌, ◌-◌, ◌^◌, ◌≤◌, ◌≡◌, ◌⊎◌, min, Bool, false, IsTrue, List, codes, is_err, IfErr, OnOk, IsErrOf, Option, Result, Ok, Err}
+use Rattle.std.specs.Prelude.{ℕ, ◌+◌, ◌-◌, ◌^◌, ◌≤◌, ◌≡◌, ◌⊎◌, min, Bool, false, IsTrue, List, codes, is_err, IfErr, OnOk, IsErrOf, Option}
+use Rattle.std.specs.Prelude.{Result, Ok, Err}
 use Rattle.smt_script.specs.Sink.{Rose}
 use Rattle.smt_script.specs.declared.sink.SinkError.{SinkError}
 use Rattle.smt_script.specs.declared.sink.SinkError.TheVariants.{Fault, Memory as SinkWant}
@@ -40,7 +41,8 @@ link_answer (Err SinkWant) = Err LinkWant
 
 -- A call on the input of a session. Where the session has failed it does nothing and answers a fault. Else it does what the
 -- link does, with the link's answer, and an error makes the session one that has failed.
-pub record OnlySends {L T : Type 0} (state : L → LinkState) (allows : L → List ℕ → List ℕ → List ℕ → Type 0) (does : LinkState → LinkState → Result T LinkError → Type 0) (old new : SessionInput L) (result : Result T SinkError) : Type 0 where
+pub record OnlySends {L T : Type 0} (state : L → LinkState) (allows : L → List ℕ → List ℕ → List ℕ → Type 0)
+    (does : LinkState → LinkState → Result T LinkError → Type 0) (old new : SessionInput L) (result : Result T SinkError) : Type 0 where
   pub refused : IsTrue (input_failed old) → IsErrOf result Fault × (input_link new ≡ input_link old)
   pub reaches : input_failed old ≡ false → does (state (input_link old)) (state (input_link new)) (link_answer result)
   -- so it refuses nothing by itself
@@ -64,7 +66,8 @@ state_by state s = state (session_link s)
 
 -- A call on a session that has failed does nothing, and answers `SolverMarkedFailed`. After a call a session has failed exactly
 -- where the answer is an error.
-pub record Guards {L T : Type 0} (allows : L → List ℕ → List ℕ → List ℕ → Type 0) (old new : LocalSolver L) (result : Result T SolverError) : Type 0 where
+pub record Guards {L T : Type 0} (allows : L → List ℕ → List ℕ → List ℕ → Type 0) (old new : LocalSolver L) (result : Result T SolverError)
+    : Type 0 where
   pub marked : IsTrue (session_failed old) → IsErrOf result SolverMarkedFailed × (session_link new ≡ session_link old)
   pub failed : session_failed new ≡ is_err result
   pub same_allows : AllowsTheSame (allows (session_link old)) (allows (session_link new))

@@ -12,7 +12,8 @@ writer_in s = s.w
 
 -- A step puts this line, and no other byte, into a sink, of which `contents` says what it holds, `faults` how often it has
 -- failed, `has_room` how many bytes it certainly takes, and `place` which references lead to it.
-pub record PutsLine {W T : Type 0} (contents : W → Option (List ℕ)) (faults : W → ℕ) (has_room : W → ℕ → Type 0) (place : W → List ℕ) (old new : W) (line : List ℕ) (result : Result T SolverError) : Type 0 where
+pub record PutsLine {W T : Type 0} (contents : W → Option (List ℕ)) (faults : W → ℕ) (has_room : W → ℕ → Type 0) (place : W → List ℕ)
+    (old new : W) (line : List ℕ) (result : Result T SolverError) : Type 0 where
   -- Ok appended all of it
   pub ok : OnOk result (contents new ≡ append_known (contents old) line)
   -- an error appended a first part of it

@@ -1,6 +1,9 @@
 // The lines by which a solver answers.
-ghost use Rattle.std.specs.Prelude.{◌≡◌, ◌≢◌, ◌≤◌, ◌<◌, ◌-◌, IsTrue, MatchBool, MatchOption, length, slice_index, take, drop};
-ghost use Rattle.smt_solve.specs.Answers.{AllBlank, IsNoDecision, IsNoError, StripsTo, closing, decision_word, error_line, is_blank, is_parse_error, opening};
+ghost use Rattle.std.specs.Prelude.{◌≡◌, ◌≢◌, ◌≤◌, ◌<◌, ◌-◌, IsTrue, MatchBool, MatchOption};
+ghost use Rattle.std.specs.Prelude.{length, slice_index, take, drop};
+ghost use Rattle.smt_solve.specs.Answers.{AllBlank, IsNoDecision, IsNoError, StripsTo, closing};
+ghost use Rattle.smt_solve.specs.Answers.{decision_word, error_line, is_blank};
+ghost use Rattle.smt_solve.specs.Answers.{is_parse_error, opening};
 
 use smt_text::Text;
 
@@ -90,7 +93,8 @@ pub(crate) fn decision_of(text: &[u8]) -> Option<Decision>
 
 /// The message of the error that the text tells of.
 pub(crate) fn error_message(text: &[u8]) -> Option<&[u8]>
-    ensures { MatchOption result (IsNoError text.now) (λ message. text.now ≡ error_line message.now) }
+    ensures { MatchOption result (IsNoError text.now)
+        (λ message. text.now ≡ error_line message.now) }
 {
     match text.strip_prefix(b"(error \"") {
         Some(rest) => rest.strip_suffix(b"\")"),

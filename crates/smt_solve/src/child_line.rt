@@ -22,7 +22,8 @@ pub(crate) enum Step {
 /// The bytes are taken from the reader once they are appended, so that none is lost where there is no memory for them.
 fn append_step<B: BufRead>(reader: &mut B, line: &mut Bytes, room: usize) -> io::Result<Step>
     requires { 0 < room }
-    ensures { AppendsStep (B.remaining reader.old) (B.remaining reader.new) (bytes_in line.old) (bytes_in line.new) room result }
+    ensures { AppendsStep (B.remaining reader.old) (B.remaining reader.new) (bytes_in line.old)
+        (bytes_in line.new) room result }
 {
     let bytes = match reader.fill_buf() {
         Ok(bytes) => bytes,
@@ -48,7 +49,8 @@ pub(crate) fn append_line<B: BufRead>(
     line: &mut Bytes,
     limit: usize,
 ) -> io::Result<LineEnd>
-    ensures { AppendsLine (B.remaining reader.old) (B.remaining reader.new) (bytes_in line.old) (bytes_in line.new) limit result }
+    ensures { AppendsLine (B.remaining reader.old) (B.remaining reader.new) (bytes_in line.old)
+        (bytes_in line.new) limit result }
 {
     let mut room = limit;
     // Nothing says that signals end, and each loop has to.

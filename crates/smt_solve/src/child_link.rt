@@ -1,8 +1,10 @@
 // A link to a child process.
-ghost use Rattle.std.specs.Prelude.{◌≡◌, ◌↔◌, ◌<◌, ◌≤◌, [], true, is_some, IsTrue, IsOk, IfOk, OnOk};
+ghost use Rattle.std.specs.Prelude.{◌≡◌, ◌↔◌, ◌<◌, ◌≤◌, [], true, is_some, IsTrue, IsOk, IfOk};
+ghost use Rattle.std.specs.Prelude.{OnOk};
 ghost use Rattle.std.specs.Process.{child_status};
 ghost use Rattle.std.specs.Io.KnownBytes.{Appends, Keeps};
-ghost use Rattle.smt_solve.specs.Children.{HasEnded, child_commands, child_faults, faults_with, held_commands};
+ghost use Rattle.smt_solve.specs.Children.{HasEnded, child_commands, child_faults, faults_with};
+ghost use Rattle.smt_solve.specs.Children.{held_commands};
 
 use crate::child_line::append_line;
 use crate::{Ended, LineEnd, Link, LinkError};
@@ -144,8 +146,10 @@ impl<R: Processes> ChildLink<R> {
 
 impl<R: Processes> Link for ChildLink<R> {
     ghost use Rattle.smt_script.specs.Bytes.{bytes_in};
-    ghost use Rattle.smt_solve.specs.Link.{AllowsTheSame, AsksEnd, HandsOn, Kills, ReadsLine, Sends};
-    ghost use Rattle.smt_solve.specs.Children.{TellsEnd, child_allows, child_answers, child_state, faults_after};
+    ghost use Rattle.smt_solve.specs.Link.{AllowsTheSame, AsksEnd, HandsOn, Kills, ReadsLine};
+    ghost use Rattle.smt_solve.specs.Link.{Sends};
+    ghost use Rattle.smt_solve.specs.Children.{TellsEnd, child_allows, child_answers, child_state};
+    ghost use Rattle.smt_solve.specs.Children.{faults_after};
     ghost use Rattle.smt_solve.specs.Line.{AppendsLine};
 
     ghost state = { child_state };
@@ -195,7 +199,8 @@ impl<R: Processes> Link for ChildLink<R> {
 
         // where the child's output tells what is to come
         ensures takes { AppendsLine (child_answers R.Started.Stdout.remaining self.old)
-            (child_answers R.Started.Stdout.remaining self.new) (bytes_in line.old) (bytes_in line.new) limit result }
+            (child_answers R.Started.Stdout.remaining self.new) (bytes_in line.old)
+            (bytes_in line.new) limit result }
     {
         match append_line(&mut self.answers, line, limit) {
             Ok(end) => Ok(end),

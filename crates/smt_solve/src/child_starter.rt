@@ -1,7 +1,9 @@
 // What starts children.
 ghost use Rattle.std.specs.Prelude.{◌≡◌, IfOk, Ok};
 ghost use Rattle.smt_solve.specs.Children.{child_allows, child_faults, child_state};
-ghost use Rattle.smt_solve.specs.Starters.{RunsCommand, StartsChild, child_starter_allows, child_starter_state, failed_starts, failed_starts_after, link_faults};
+ghost use Rattle.smt_solve.specs.Starters.{RunsCommand, StartsChild, child_starter_allows};
+ghost use Rattle.smt_solve.specs.Starters.{child_starter_state, failed_starts};
+ghost use Rattle.smt_solve.specs.Starters.{failed_starts_after, link_faults};
 ghost use Rattle.smt_solve.specs.Link.{AllowsOnly, AllowsTheSame, IsUnused};
 ghost use Rattle.smt_solve.specs.Starter.{Finishes, command_of};
 
@@ -95,8 +97,10 @@ impl<R: Processes> Starter for ChildStarter<R> {
         ensures unused { IfOk result (λ link. IsUnused (child_state link)) }
         ensures honest { IfOk result
             (λ link. AllowsOnly (child_allows link) (child_starter_allows self.old)) }
-        ensures allows { AllowsTheSame (child_starter_allows self.old) (child_starter_allows self.new) }
-        ensures counts { failed_starts self.new ≡ failed_starts_after (failed_starts self.old) result }
+        ensures allows { AllowsTheSame (child_starter_allows self.old)
+            (child_starter_allows self.new) }
+        ensures counts { failed_starts self.new
+            ≡ failed_starts_after (failed_starts self.old) result }
     {
         match self.spawn(alloc, cmd) {
             Ok(link) => Ok(link),
@@ -112,7 +116,8 @@ impl<R: Processes> Starter for ChildStarter<R> {
     fn finish(&mut self, link: ChildLink<R>) -> Result<(), StartError>
         ensures finishes { Finishes (child_starter_state self.old) (child_starter_state self.new)
             link (child_faults link) result }
-        ensures allows { AllowsTheSame (child_starter_allows self.old) (child_starter_allows self.new) }
+        ensures allows { AllowsTheSame (child_starter_allows self.old)
+            (child_starter_allows self.new) }
         ensures done { result ≡ Ok tt }
     {
         if link.has_failed() {

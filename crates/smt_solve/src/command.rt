@@ -1,5 +1,6 @@
 // Commands that start a solver.
-ghost use Rattle.std.specs.Prelude.{◌≡◌, ◌++◌, ◌∷◌, [], codes, length, IfOk, IsOkUnless, OnErr, OnOk};
+ghost use Rattle.std.specs.Prelude.{◌≡◌, ◌++◌, ◌∷◌, [], codes, length, IfOk, IsOkUnless, OnErr};
+ghost use Rattle.std.specs.Prelude.{OnOk};
 ghost use Rattle.std.specs.Rc.{rc_str_bytes};
 ghost use Rattle.law_texts.specs.SharedTexts.{texts};
 ghost use Rattle.smt_solve.specs.Cvc5.{cvc5_command};
@@ -136,7 +137,8 @@ impl SolverCommand {
         setting: Option<&str>,
         args: &[Text],
     ) -> Result<SolverCommand, SolverError>
-        ensures ok { IfOk result (λ cmd. command_of cmd ≡ cvc5_command setting.entry (texts args.now)) }
+        ensures ok { IfOk result
+            (λ cmd. command_of cmd ≡ cvc5_command setting.entry (texts args.now)) }
         ensures refusal { IsOkUnless result SolverError.Memory }
     {
         let program = setting.unwrap_or("cvc5");

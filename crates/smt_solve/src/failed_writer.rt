@@ -48,7 +48,8 @@ impl Sink for FailedWriter {
 
     /// Fails.
     fn flush(&mut self) -> Result<(), SinkError>
-        ensures flushes { Flushes failed_contents failed_faults uncertain unreferenced self.old self.new result }
+        ensures flushes { Flushes failed_contents failed_faults uncertain unreferenced self.old
+            self.new result }
         ensures fails { result ≡ Err SinkError.Fault }
         ensures counts { failed_faults self.new ≡ counted (failed_faults self.old) }
     {

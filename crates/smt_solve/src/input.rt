@@ -27,9 +27,10 @@ impl<L: Link> Sink for SessionInput<L> {
 
     /// Sends all bytes, or refuses them where the session has failed.
     fn put(&mut self, bytes: &[u8]) -> Result<(), SinkError>
-        ensures puts { Puts (sent_by L.state) (faults_by L.state) uncertain unreferenced self.old self.new
-            bytes.now result }
-        ensures sends { OnlySends L.state L.allows (λ old new done. Sends old new bytes.now done) self.old self.new result }
+        ensures puts { Puts (sent_by L.state) (faults_by L.state) uncertain unreferenced self.old
+            self.new bytes.now result }
+        ensures sends { OnlySends L.state L.allows (λ old new done. Sends old new bytes.now done)
+            self.old self.new result }
     {
         if self.failed {
             self.refused = self.refused.saturating_add(1);
@@ -50,9 +51,10 @@ impl<L: Link> Sink for SessionInput<L> {
 
     /// Hands on all bytes that the link holds back.
     fn flush(&mut self) -> Result<(), SinkError>
-        ensures flushes { Flushes (sent_by L.state) (faults_by L.state) uncertain unreferenced self.old
+        ensures flushes { Flushes (sent_by L.state) (faults_by L.state) uncertain unreferenced
+            self.old self.new result }
+        ensures sends { OnlySends L.state L.allows (λ old new done. HandsOn old new done) self.old
             self.new result }
-        ensures sends { OnlySends L.state L.allows (λ old new done. HandsOn old new done) self.old self.new result }
     {
         if self.failed {
             self.refused = self.refused.saturating_add(1);

@@ -12,7 +12,8 @@ use crate::link::LineEnd;
 /// that it counts, and takes no memory.
 pub fn next_line(bytes: &[u8], limit: usize) -> (usize, LineEnd)
     ensures within { result.0 ≤ length bytes.now }
-    ensures ending { EndsAs result.1 (take result.0 bytes.now) limit (Some (drop result.0 bytes.now)) }
+    ensures ending { EndsAs result.1 (take result.0 bytes.now) limit
+        (Some (drop result.0 bytes.now)) }
 {
     let mut at = 0;
     while at < limit {

@@ -1,7 +1,8 @@
 // A link to a solver.
 ghost use Rattle.std.specs.Prelude.{ℕ, List};
 ghost use Rattle.smt_script.specs.Bytes.{bytes_in};
-ghost use Rattle.smt_solve.specs.Link.{AllowsTheSame, AsksEnd, HandsOn, Kills, LinkState, ReadsLine, Sends};
+ghost use Rattle.smt_solve.specs.Link.{AllowsTheSame, AsksEnd, HandsOn, Kills, LinkState};
+ghost use Rattle.smt_solve.specs.Link.{ReadsLine, Sends};
 
 use smt_script::Bytes;
 use thiserror::Error;

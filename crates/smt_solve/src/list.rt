@@ -14,7 +14,8 @@ pub struct LinkList {
 }
 
 impl LinkList {
-    ghost use Rattle.std.specs.Prelude.{◌≡◌, ◌++◌, ◌∷◌, [], length, IfSome, OnOk, OnErr, IsOkUnless, MatchOption};
+    ghost use Rattle.std.specs.Prelude.{◌≡◌, ◌++◌, ◌∷◌, [], length, IfSome, OnOk, OnErr};
+    ghost use Rattle.std.specs.Prelude.{IsOkUnless, MatchOption};
     ghost use Rattle.smt_solve.specs.MemoryLink.{IsUntouched};
     ghost use Rattle.smt_solve.specs.MemoryStarter.{links_in};
 

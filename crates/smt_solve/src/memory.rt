@@ -38,7 +38,8 @@ impl Drop for MemoryLink {
 
 impl MemoryLink {
     ghost use Rattle.std.specs.Prelude.{◌≡◌, ◌≤◌, ◌<◌, ◌↔◌, IfOk, IsOkUnless, IsTrue};
-    ghost use Rattle.smt_solve.specs.MemoryLink.{IsNew, bytes_left, memory_sent, memory_faults, IsToFail, IsUntouched, counts_call};
+    ghost use Rattle.smt_solve.specs.MemoryLink.{IsNew, bytes_left, memory_sent, memory_faults};
+    ghost use Rattle.smt_solve.specs.MemoryLink.{IsToFail, IsUntouched, counts_call};
 
     /// A link whose solver answers with the bytes of `answers`, whatever it is sent.
     ///
@@ -115,8 +116,10 @@ impl MemoryLink {
 impl Link for MemoryLink {
     ghost use Rattle.std.specs.Prelude.{◌≡◌};
     ghost use Rattle.smt_script.specs.Bytes.{bytes_in};
-    ghost use Rattle.smt_solve.specs.Link.{AllowsTheSame, AsksEnd, HandsOn, Kills, ReadsLine, Sends};
-    ghost use Rattle.smt_solve.specs.MemoryLink.{EndStays, FailsAsTold, memory_allows, memory_state};
+    ghost use Rattle.smt_solve.specs.Link.{AllowsTheSame, AsksEnd, HandsOn, Kills, ReadsLine};
+    ghost use Rattle.smt_solve.specs.Link.{Sends};
+    ghost use Rattle.smt_solve.specs.MemoryLink.{EndStays, FailsAsTold, memory_allows};
+    ghost use Rattle.smt_solve.specs.MemoryLink.{memory_state};
 
     ghost state = { memory_state };
 

@@ -1,8 +1,12 @@
 // A starter in memory.
 ghost use Rattle.std.specs.Prelude.{◌≡◌, ◌⊎◌, ◌∷◌, [], map, IfOk, IfSome, IsOkUnless, MatchOption};
 ghost use Rattle.smt_solve.specs.Link.{AllowsOnly, AllowsTheSame, IsUnused};
-ghost use Rattle.smt_solve.specs.MemoryLink.{IsUntouched, memory_allows, memory_faults, memory_state};
-ghost use Rattle.smt_solve.specs.MemoryStarter.{IsIdle, NextStartFails, StartsAsTold, asked, counts_start, links_back, links_in, links_left, memory_starter_allows, memory_starter_state};
+ghost use Rattle.smt_solve.specs.MemoryLink.{IsUntouched, memory_allows, memory_faults};
+ghost use Rattle.smt_solve.specs.MemoryLink.{memory_state};
+ghost use Rattle.smt_solve.specs.MemoryStarter.{IsIdle, NextStartFails, StartsAsTold, asked};
+ghost use Rattle.smt_solve.specs.MemoryStarter.{counts_start, links_back, links_in};
+ghost use Rattle.smt_solve.specs.MemoryStarter.{links_left, memory_starter_allows};
+ghost use Rattle.smt_solve.specs.MemoryStarter.{memory_starter_state};
 ghost use Rattle.smt_solve.specs.Starter.{Finishes, Starts, command_of};
 
 use crate::command::SolverCommand;
@@ -65,7 +69,8 @@ impl MemoryStarter {
         ensures given { MatchOption result
             ((NextStartFails self.old ⊎ (links_left self.old ≡ []))
             × (links_left self.new ≡ links_left self.old))
-            (λ link. (¬ NextStartFails self.old) × (links_left self.old ≡ link ∷ links_left self.new)) }
+            (λ link.
+            (¬ NextStartFails self.old) × (links_left self.old ≡ link ∷ links_left self.new)) }
         ensures untouched { IfSome result IsUntouched }
     {
         self.starts = self.starts.saturating_add(1);
@@ -104,7 +109,8 @@ impl Starter for MemoryStarter {
         ensures unused { IfOk result (λ link. IsUnused (memory_state link)) }
         ensures honest { IfOk result
             (λ link. AllowsOnly (memory_allows link) (memory_starter_allows self.old)) }
-        ensures allows { AllowsTheSame (memory_starter_allows self.old) (memory_starter_allows self.new) }
+        ensures allows { AllowsTheSame (memory_starter_allows self.old)
+            (memory_starter_allows self.new) }
         ensures told { StartsAsTold self.old self.new result }
     {
         let Ok(cmd) = cmd.share(alloc) else {
@@ -126,7 +132,8 @@ impl Starter for MemoryStarter {
     fn finish(&mut self, link: MemoryLink) -> Result<(), StartError>
         ensures finishes { Finishes (memory_starter_state self.old) (memory_starter_state self.new)
             link (memory_faults link) result }
-        ensures allows { AllowsTheSame (memory_starter_allows self.old) (memory_starter_allows self.new) }
+        ensures allows { AllowsTheSame (memory_starter_allows self.old)
+            (memory_starter_allows self.new) }
     {
         if link.has_failed() {
             self.link_faults = self.link_faults.saturating_add(1);

@@ -3,7 +3,9 @@ ghost use Rattle.std.specs.Rc.{rc_str_bytes};
 ghost use Rattle.std.specs.String.{string_bytes};
 ghost use Rattle.smt_solve.specs.Answers.{StripsTo, opening};
 ghost use Rattle.smt_solve.specs.Link.{AllowsTheSame};
-ghost use Rattle.smt_solve.specs.Model.{AsksModel, AsksWithModel, IsNotOpening, PushesLine, ReadsModel, ReadsNextLine, ReadsOpening, ReadsRest, TakesLine, TakesOpening};
+ghost use Rattle.smt_solve.specs.Model.{AsksModel, AsksWithModel, IsNotOpening, PushesLine};
+ghost use Rattle.smt_solve.specs.Model.{ReadsModel, ReadsNextLine, ReadsOpening};
+ghost use Rattle.smt_solve.specs.Model.{ReadsRest, TakesLine, TakesOpening};
 ghost use Rattle.smt_solve.specs.Question.{JudgesLine};
 
 use crate::answer::{Decision, DecisionWithModel, is_closing, is_opening, strip};
@@ -55,7 +57,8 @@ fn take_opening<L: Link>(
     line: &[u8],
     model: &mut String,
 ) -> Result<(), SolverError>
-    ensures takes { TakesOpening line.now (L.state link.old) (L.state link.new) (string_bytes model.new) result }
+    ensures takes { TakesOpening line.now (L.state link.old) (L.state link.new)
+        (string_bytes model.new) result }
     ensures allows { AllowsTheSame (L.allows link.old) (L.allows link.new) }
 {
     judge_opening(alloc, link, line)?;
@@ -65,7 +68,8 @@ fn take_opening<L: Link>(
 
 /// Reads the first line of a model.
 fn read_opening<L: Link>(alloc: Global, link: &mut L, model: &mut String) -> Result<(), SolverError>
-    ensures reads { ReadsOpening (L.allows link.old) (L.state link.old) (L.state link.new) (string_bytes model.new) result }
+    ensures reads { ReadsOpening (L.allows link.old) (L.state link.old) (L.state link.new)
+        (string_bytes model.new) result }
     ensures allows { AllowsTheSame (L.allows link.old) (L.allows link.new) }
 {
     let line = read_reply(alloc, link)?;
@@ -119,7 +123,8 @@ fn read_rest<L: Link>(alloc: Global, link: &mut L, model: &mut String) -> Result
 
 /// Asks for the model that the last question found, and reads it.
 fn read_model<L: Link>(alloc: Global, link: &mut L, model: &mut String) -> Result<(), SolverError>
-    ensures reads { ReadsModel (L.allows link.old) (L.state link.old) (L.state link.new) (string_bytes model.new) result }
+    ensures reads { ReadsModel (L.allows link.old) (L.state link.old) (L.state link.new)
+        (string_bytes model.new) result }
     ensures allows { AllowsTheSame (L.allows link.old) (L.allows link.new) }
 {
     send_command(link, b"(get-model)\n")?;
@@ -129,7 +134,8 @@ fn read_model<L: Link>(alloc: Global, link: &mut L, model: &mut String) -> Resul
 
 /// Asks for the model that the last question found.
 fn ask_model<L: Link>(alloc: Global, link: &mut L) -> Result<Text, SolverError>
-    ensures asks { AsksModel (L.allows link.old) (L.state link.old) (L.state link.new) rc_str_bytes result }
+    ensures asks { AsksModel (L.allows link.old) (L.state link.old) (L.state link.new) rc_str_bytes
+        result }
     ensures allows { AllowsTheSame (L.allows link.old) (L.allows link.new) }
 {
     let mut model = String::new(alloc);

@@ -5,7 +5,10 @@ ghost use Rattle.std.specs.String.{string_bytes};
 ghost use Rattle.smt_script.specs.Bytes.{bytes_in};
 ghost use Rattle.smt_solve.specs.Answers.{IsNoDecision, decision_word, end_message, StripsTo};
 ghost use Rattle.smt_solve.specs.Link.{AllowsTheSame};
-ghost use Rattle.smt_solve.specs.Question.{AsksDecision, AsksRunner, AsksRunning, EndsAnswers, IsEndError, JudgesLine, KillsLink, ReadsReply, RefusesText, SendsCommand, TellsMessage, TellsOther};
+ghost use Rattle.smt_solve.specs.Question.{AsksDecision, AsksRunner, AsksRunning, EndsAnswers};
+ghost use Rattle.smt_solve.specs.Question.{IsEndError, JudgesLine, KillsLink};
+ghost use Rattle.smt_solve.specs.Question.{ReadsReply, RefusesText, SendsCommand, TellsMessage};
+ghost use Rattle.smt_solve.specs.Question.{TellsOther};
 
 use crate::answer::{Decision, decision_of, error_message, is_parse_error, strip};
 use crate::error::SolverError;
@@ -101,7 +104,8 @@ fn ask_running<L: Link>(alloc: Global, link: &mut L) -> Result<(), SolverError>
 
 /// Reads a line, which has no byte where the answers have ended.
 pub(crate) fn read_reply<L: Link>(alloc: Global, link: &mut L) -> Result<Bytes, SolverError>
-    ensures reads { ReadsReply (L.allows link.old) (L.state link.old) (L.state link.new) bytes_in result }
+    ensures reads { ReadsReply (L.allows link.old) (L.state link.old) (L.state link.new) bytes_in
+        result }
     ensures allows { AllowsTheSame (L.allows link.old) (L.allows link.new) }
 {
     let mut line = Bytes::new(alloc);

@@ -7,7 +7,8 @@ ghost use Rattle.smt_solve.specs.Lends.{LendsInput};
 ghost use Rattle.smt_solve.specs.Link.{AllowsOnly, AllowsTheSame, IsOver, IsUnused};
 ghost use Rattle.smt_solve.specs.Model.{AsksWithModel};
 ghost use Rattle.smt_solve.specs.Question.{AsksDecision, KillsLink, SendsCommand};
-ghost use Rattle.smt_solve.specs.Session.{Guards, StartsSession, enable_models_text, session_failed, session_link, state_by};
+ghost use Rattle.smt_solve.specs.Session.{Guards, StartsSession, enable_models_text};
+ghost use Rattle.smt_solve.specs.Session.{session_failed, session_link, state_by};
 ghost use Rattle.smt_solve.specs.Starter.{command_of};
 
 use crate::answer::{Decision, DecisionWithModel};
@@ -221,7 +222,8 @@ impl<L: Link> LocalSolver<L> {
     pub fn clean_up(&mut self) -> Result<(), SolverError>
         ensures kills { KillsLink (state_by L.state self.old) (state_by L.state self.new) result }
         ensures marks { session_failed self.new ≡ (session_failed self.old || is_err result) }
-        ensures allows { AllowsTheSame (L.allows (session_link self.old)) (L.allows (session_link self.new)) }
+        ensures allows { AllowsTheSame (L.allows (session_link self.old))
+            (L.allows (session_link self.new)) }
     {
         let done = kill_link(&mut self.input.link);
         self.input.failed = self.input.failed || done.is_err();
@@ -248,7 +250,8 @@ impl<L: Link> Solver for LocalSolver<L> {
     fn enable_models(&mut self) -> Result<(), SolverError>
         ensures guards { Guards L.allows self.old self.new result }
         ensures sends { session_failed self.old ≡ false →
-            SendsCommand (state_by L.state self.old) (state_by L.state self.new) enable_models_text result }
+            SendsCommand (state_by L.state self.old) (state_by L.state self.new) enable_models_text
+            result }
     {
         self.send_lines(b"(set-option :produce-models true)\n")
     }
@@ -281,7 +284,8 @@ impl<L: Link> Solver for LocalSolver<L> {
     fn check_sat(&mut self) -> Result<Decision, SolverError>
         ensures guards { Guards L.allows self.old self.new result }
         ensures asks { session_failed self.old ≡ false →
-            AsksDecision (L.allows (session_link self.old)) (state_by L.state self.old) (state_by L.state self.new) result }
+            AsksDecision (L.allows (session_link self.old)) (state_by L.state self.old)
+            (state_by L.state self.new) result }
         ensures over { IsOver (state_by L.state self.old) → IsErr result }
     {
         if self.input.failed {
@@ -305,7 +309,8 @@ impl<L: Link> Solver for LocalSolver<L> {
     fn check_sat_with_model(&mut self) -> Result<DecisionWithModel, SolverError>
         ensures guards { Guards L.allows self.old self.new result }
         ensures asks { session_failed self.old ≡ false →
-            AsksWithModel (L.allows (session_link self.old)) (state_by L.state self.old) (state_by L.state self.new) result }
+            AsksWithModel (L.allows (session_link self.old)) (state_by L.state self.old)
+            (state_by L.state self.new) result }
         ensures over { IsOver (state_by L.state self.old) → IsErr result }
     {
         if self.input.failed {

@@ -6,8 +6,8 @@ use Rattle.law_terms.specs.Plain.{ExtensionKind, OptionType, BitVecType, BoolTyp
 use Rattle.smt_term.specs.View.{plain_function, plain_op}
 use Rattle.std.specs.declared.alloc.Global.{Global}
 use Rattle.std.specs.declared.rc.RcStr.{RcStr}
-use Rattle.smt_types.specs.declared.entity.EntityType.{EntityType as EntityName}
-use Rattle.smt_types.specs.declared.extension.ExtType.{ExtType}
+use Rattle.smt_term.specs.declared.entity.EntityType.{EntityType as EntityName}
+use Rattle.smt_term.specs.declared.extension.ExtType.{ExtType}
 use Rattle.law_terms.specs.TypeValues.{Enums}
 use Rattle.smt_term.specs.declared.op.Op.{Op}
 use Rattle.smt_term.specs.declared.op.Op.TheVariants.{And, Uuf}

@@ -2,7 +2,7 @@
 use Rattle.std.proofs.Common.{◌≡◌, ℕ, suc, true, false, List, [], ◌∷◌, length, get_or, map, Option, Some, None, refl, sym, ap, ◌∙◌, arith}
 use Rattle.std.specs.Prelude.{option_map}
 use Rattle.std.proofs.lemmas.Bool.{false≢true}
-use Rattle.law_terms.specs.Plain.{PlainType, BitVecType, BoolType, BvnegoOp, UufOp, PlainTerm, PlainTerms, no_terms, one_term, Application, list_of_terms, terms}
+use Rattle.law_terms.specs.Plain.{PlainType, BitVecType, BoolType, BvnegoOp, UufOp, PlainTerm, Application, list_of_terms, terms}
 use Rattle.law_terms.specs.Types.{type_of}
 use Rattle.law_terms.specs.Meanings.{all_found, found}
 use Rattle.law_terms.specs.Nodes.{Meaning, TypeMeaning, FunctionMeaning, TermMeaning}
@@ -12,12 +12,7 @@ use Rattle.smt_nodes.specs.View.{place_of, places_of}
 use Rattle.smt_nodes.specs.declared.id.NodeId.{NodeId}
 use Rattle.law_lines.specs.Lines.{AsApplication, AsEqualsIntMin, AsFalse, least_rendering, negation_rendering}
 use Rattle.smt_spelling.specs.NodeEntries.{AsCall, Rendered, is_call_label, is_negation_label, is_truth_type, rendering_in, width_of_type}
-
--- ---- lists of terms
-
-pub terms_again : (ts : PlainTerms) → terms (list_of_terms ts) ≡ ts
-terms_again no_terms = refl
-terms_again (one_term t ts) = ap (one_term t) (terms_again ts)
+use Rattle.law_terms.proofs.Listed.{listed_again}
 
 -- ---- the first parts
 
@@ -85,7 +80,7 @@ of_none t h = refl
 
 -- the parts of the overflow test of a negation, and how it is written
 pub negation : (m : Meaning) → is_negation_label (label_in m) ≡ true → (t : PlainType) × (ts : List PlainTerm) × (parts_in m ≡ TypeMeaning t ∷ map TermMeaning ts) × (rendering_in m ≡ Rendered (negation_rendering (terms ts) t))
-negation (TermMeaning (Application BvnegoOp ts t)) h = (t, list_of_terms ts, refl, ap (λ u. Rendered (negation_rendering u t)) (sym (terms_again ts)))
+negation (TermMeaning (Application BvnegoOp ts t)) h = (t, list_of_terms ts, refl, ap (λ u. Rendered (negation_rendering u t)) (sym (listed_again ts)))
 negation (TermMeaning t) h = absurd (false≢true h)
 negation (FunctionMeaning f) h = absurd (false≢true h)
 negation (TypeMeaning t) h = absurd (false≢true (sym (no_type t) ∙ h))

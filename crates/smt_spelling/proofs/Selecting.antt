@@ -35,7 +35,8 @@ use Rattle.smt_spelling.specs.declared.node_names.NodeNames.{NodeNames}
 use Rattle.smt_spelling.specs.TextFaults.{Finds}
 use Rattle.smt_spelling.proofs.Built.{record_meant}
 use Rattle.smt_spelling.proofs.Named.{named_at}
-use Rattle.smt_spelling.proofs.Rendered.{first_found, terms_again}
+use Rattle.smt_spelling.proofs.Rendered.{first_found}
+use Rattle.law_terms.proofs.Listed.{listed_again}
 
 -- ---- labels that take an attribute, and others
 
@@ -43,7 +44,7 @@ use Rattle.smt_spelling.proofs.Rendered.{first_found, terms_again}
 pub selected : (m : Meaning) (a : List ℕ) → selected_by (label_in m) ≡ Some a → (t : PlainType) × (ts : List PlainTerm) × (m ≡ TermMeaning (Application (RecordGetOp a) (terms ts) t)) × (parts_in m ≡ TypeMeaning t ∷ map TermMeaning ts)
 selected (TermMeaning (Application (RecordGetOp b) ts t)) a h =
     let same : b ≡ a = cc in
-    (t, list_of_terms ts, ap (λ x. TermMeaning (Application (RecordGetOp x) ts t)) same ∙ ap (λ l. TermMeaning (Application (RecordGetOp a) l t)) (sym (terms_again ts)), refl)
+    (t, list_of_terms ts, ap (λ x. TermMeaning (Application (RecordGetOp x) ts t)) same ∙ ap (λ l. TermMeaning (Application (RecordGetOp a) l t)) (sym (listed_again ts)), refl)
 selected (TermMeaning (Application (UufOp f) ts t)) a h = absurd (cc)
 selected (TermMeaning (Application o ts t)) a h = absurd (cc)
 selected (TermMeaning t) a h = absurd (cc)

@@ -1,7 +1,7 @@
 -- Worked examples of look-ups.
 use Rattle.std.specs.Prelude.{ℕ, zero, suc, ◌≡◌, true, List, [], ◌∷◌, codes}
 use Rattle.law_terms.specs.Plain.{EqOp, RecordGetOp}
-use Rattle.law_terms.specs.NodeExamples.{negation, node, sum}
+use Rattle.law_terms.specs.NodeRows.{negation, node, sum}
 use Rattle.law_terms.specs.Nodes.{PlainNode, ApplicationLabel, BitVecLabel, BoolLabel, RecordLabel, VariableLabel}
 use Rattle.smt_spelling.specs.LookUps.{look_ups, IsClosed}
 
@@ -16,7 +16,9 @@ doubled = node (BitVecLabel 64) [] ∷ node BoolLabel [] ∷ node (VariableLabel
 
 -- a variable of a record type with one attribute, which is a truth value, and the attribute
 abbrev pub attribute_taken : List PlainNode
-attribute_taken = node BoolLabel [] ∷ node (RecordLabel (codes "a" ∷ [])) (0 ∷ []) ∷ node (VariableLabel (codes "r")) (1 ∷ []) ∷ node (ApplicationLabel (RecordGetOp (codes "a"))) (0 ∷ 2 ∷ []) ∷ []
+attribute_taken =
+    node BoolLabel [] ∷ node (RecordLabel (codes "a" ∷ [])) (0 ∷ []) ∷ node (VariableLabel (codes "r")) (1 ∷ [])
+    ∷ node (ApplicationLabel (RecordGetOp (codes "a"))) (0 ∷ 2 ∷ []) ∷ []
 
 -- how many look-ups writing takes of a negation, of doubled sums, which are shared, and of an attribute
 pub record LookUpRows : Type 0 where

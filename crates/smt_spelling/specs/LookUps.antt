@@ -10,7 +10,9 @@ use Rattle.smt_spelling.specs.declared.node_names.NodeNames.{NodeNames}
 
 -- A set of nodes, by their places, that has the parts of its nodes too: what is written is such a set.
 abbrev pub IsClosed : List PlainNode → (ℕ → Bool) → Type 0
-IsClosed nodes has = (place : ℕ) (node : PlainNode) → slice_get nodes place ≡ Some node → IsTrue (has place) → AllByRecursion (λ part. IsTrue (has part)) node.parts
+IsClosed nodes has =
+    (place : ℕ) (node : PlainNode) → slice_get nodes place ≡ Some node → IsTrue (has place) →
+    AllByRecursion (λ part. IsTrue (has part)) node.parts
 
 -- the look-up of a record's type, by whose name an attribute is selected
 abbrev pub selections : PlainLabel → ℕ

@@ -3,7 +3,7 @@ use Rattle.std.specs.Prelude.{ℕ, ◌≡◌, ◌≤◌, false, List, Some, leng
 use Rattle.std.specs.List.{AllZip}
 use Rattle.std.specs.Vec.{vec_capacity}
 use Rattle.law_terms.specs.TypeValues.{Enums}
-use Rattle.smt_types.specs.Enums.{enums_of}
+use Rattle.smt_term.specs.Enums.{enums_of}
 use Rattle.law_terms.specs.Nodes.{Meaning}
 use Rattle.smt_nodes.specs.Interned.{meaning_in, nodes_of}
 use Rattle.smt_nodes.specs.View.{place_of}
@@ -40,7 +40,8 @@ pub record AreTables (n : Names) (s : Tables) : Type 0 where
 -- the tables in it.
 pub record AreKept (enums : Enums) (nodes : Interner) (k : Kept) (s : Tables) : Type 0 where
   pub names : (m : Meaning) → HasNameBy nodes k.texts m (name_in s m)
-  pub inline : (id : NodeId) (m : Meaning) (text : List ℕ) → meaning_in nodes id ≡ Some m → has_entry m ≡ false → k.texts (place_of id) ≡ Some text → IsText enums s m text
+  pub inline : (id : NodeId) (m : Meaning) (text : List ℕ) → meaning_in nodes id ≡ Some m → has_entry m ≡ false →
+      k.texts (place_of id) ≡ Some text → IsText enums s m text
   pub terms : k.terms ≡ length s.terms
   pub types : k.types ≡ length s.types
   pub functions : k.functions ≡ length s.functions

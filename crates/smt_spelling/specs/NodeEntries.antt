@@ -1,18 +1,25 @@
 -- How nodes are entered: what is known of a node's own lines, by the texts of its parts.
-use Rattle.std.specs.Prelude.{ℕ, ◌-◌, Bool, true, false, codes, List, [], ◌∷◌, ◌++◌, Option, Some, None, is_some, drop, length, nat_eq, take}
+use Rattle.std.specs.Prelude.{ℕ, ◌-◌, Bool, true, false, codes, List, [], ◌∷◌, ◌++◌, Option, Some, None, is_some, drop, length, nat_eq}
+use Rattle.std.specs.Prelude.{take}
 use Rattle.std.specs.Option.{option_or}
 use Rattle.law_terms.specs.Faults.{Fault, entity_fault, entity_type_fault, record_get_fault}
 use Rattle.law_terms.specs.Types.{types_of}
-use Rattle.law_terms.specs.Plain.{PlainLiteral, EntityLiteral, ExtensionLiteral, PlainType, BitVecType, BoolType, PlainOp, BvnegoOp, PlainFunction, RecordGetOp, UufOp, PlainTerm, PlainTerms, Application}
-use Rattle.law_terms.specs.Nodes.{PlainLabel, OptionLabel, BitVecLabel, BoolLabel, EntityLabel, ExtensionLabel, StringLabel, RecordLabel, SetLabel, FunctionLabel, ApplicationLabel, CallLabel, NoneLabel, LiteralLabel, RecordOfLabel, SetOfLabel, SomeLabel, VariableLabel, Meaning, FunctionMeaning, TermMeaning, TypeMeaning}
+use Rattle.law_terms.specs.Plain.{PlainLiteral, EntityLiteral, ExtensionLiteral, PlainType, BitVecType, BoolType, PlainOp, BvnegoOp}
+use Rattle.law_terms.specs.Plain.{PlainFunction, RecordGetOp, UufOp, PlainTerm, PlainTerms, Application}
+use Rattle.law_terms.specs.Nodes.{PlainLabel, OptionLabel, BitVecLabel, BoolLabel, EntityLabel, ExtensionLabel, StringLabel, RecordLabel}
+use Rattle.law_terms.specs.Nodes.{SetLabel, FunctionLabel, ApplicationLabel, CallLabel, NoneLabel, LiteralLabel, RecordOfLabel, SetOfLabel}
+use Rattle.law_terms.specs.Nodes.{SomeLabel, VariableLabel, Meaning, FunctionMeaning, TermMeaning, TypeMeaning}
 use Rattle.law_terms.specs.Parts.{label_in}
 use Rattle.law_texts.specs.Reading.{Expression}
 use Rattle.law_scripts.specs.Script.{group, name}
 use Rattle.law_scripts.specs.Sorts.{bit_sort, bool_sort, option_sort, set_sort, string_sort}
 use Rattle.law_lines.specs.Line.{Line}
 use Rattle.law_lines.specs.EntryNames.{attribute_name, kind_name}
-use Rattle.law_lines.specs.LineForms.{application_body, entity_lines, extension_body, function_declaration, function_heading, kind_lines, least_body, none_body, operator_head, record_body, record_lines, set_body}
-use Rattle.law_lines.specs.Lines.{Enums, Written, Rendering, AsApplication, AsEqualsIntMin, AsFalse, application_rendering, attribute_place, enter_function, enter_term, enter_type, first_type, made_of, members_of, next_entity, next_function, next_record, next_term}
+use Rattle.law_lines.specs.LineForms.{application_body, entity_lines, extension_body, function_declaration, function_heading, kind_lines}
+use Rattle.law_lines.specs.LineForms.{least_body, none_body, operator_head, record_body, record_lines, set_body}
+use Rattle.law_lines.specs.Lines.{Enums, Written, Rendering, AsApplication, AsEqualsIntMin, AsFalse, application_rendering, attribute_place}
+use Rattle.law_lines.specs.Lines.{enter_function, enter_term, enter_type, first_type, made_of, members_of, next_entity, next_function}
+use Rattle.law_lines.specs.Lines.{next_record, next_term}
 use Rattle.law_lines.specs.NameTables.{Tables, name_of_type, text_of_name}
 use Rattle.law_lines.specs.Spelling.{spelled}
 use Rattle.law_lines.specs.TermTexts.{bool_name, inline_text}
@@ -90,7 +97,8 @@ declare_by enums l t es s = made_of (name []) s
 
 -- a function's own line, behind those of its types, and its name among the names
 abbrev pub declare_function : PlainFunction → List Expression → Tables → Written Expression
-declare_function f (argument ∷ output ∷ []) s = enter_function f (next_function s) (function_declaration (next_function s) argument output) s
+declare_function f (argument ∷ output ∷ []) s =
+    enter_function f (next_function s) (function_declaration (next_function s) argument output) s
 declare_function f es s = made_of (name []) s
 
 -- what stands before the lines of the parts: of a function its id

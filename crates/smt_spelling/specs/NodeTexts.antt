@@ -38,7 +38,13 @@ kept_now names = record { texts = kept_at names.texts.items; terms = names.terms
 
 -- what was kept at the moment of a push, from its mark: each text that is kept now and was not kept since, and as many names as then
 abbrev pub kept_at_mark : NodeNames → Mark → Kept
-kept_at_mark names mark = record { texts = kept_then (kept_at names.texts.items) (places_of names.order.items) mark.kept; terms = mark.terms; types = mark.types; functions = mark.functions }
+kept_at_mark names mark =
+    record {
+      texts = kept_then (kept_at names.texts.items) (places_of names.order.items) mark.kept;
+      terms = mark.terms;
+      types = mark.types;
+      functions = mark.functions;
+    }
 
 -- what was kept at the moment of each push that is open, the last first
 abbrev pub kept_below : NodeNames → List Kept
@@ -56,7 +62,8 @@ HasNoTexts names = (id : NodeId) → IsTrue (is_none (text_at names id))
 -- A type, a function or a term has this name, or none, by the texts at places: it has one where a number of the nodes stands for it, it
 -- has an entry, and its number has a text.
 abbrev pub HasNameBy : Interner → (ℕ → Option (List ℕ)) → Meaning → Option (List ℕ) → Type 0
-HasNameBy nodes texts m (Some name) = (id : NodeId) × (meaning_in nodes id ≡ Some m) × IsTrue (has_entry m) × (texts (place_of id) ≡ Some name)
+HasNameBy nodes texts m (Some name) =
+    (id : NodeId) × (meaning_in nodes id ≡ Some m) × IsTrue (has_entry m) × (texts (place_of id) ≡ Some name)
 HasNameBy nodes texts m None = (id : NodeId) → meaning_in nodes id ≡ Some m → IsTrue (has_entry m) → texts (place_of id) ≡ None
 
 -- the same by the texts that are kept now
@@ -71,16 +78,19 @@ IsText enums s m text = (e : Expression) × (encode_meaning enums m s ≡ made_o
 -- none; and each text that is kept is the one that stands for its node.
 pub record AreTexts (enums : Enums) (s : Tables) (nodes : Interner) (names : NodeNames) : Type 0 where
   pub named : (id : NodeId) (m : Meaning) → meaning_in nodes id ≡ Some m → IsTrue (has_entry m) → text_at names id ≡ name_in s m
-  pub stated : (id : NodeId) (m : Meaning) (text : List ℕ) → meaning_in nodes id ≡ Some m → text_at names id ≡ Some text → IsText enums s m text
+  pub stated : (id : NodeId) (m : Meaning) (text : List ℕ) → meaning_in nodes id ≡ Some m → text_at names id ≡ Some text →
+      IsText enums s m text
 
 -- The texts that are kept are of the nodes, and what has one has no fault.
 pub record AreSound (enums : Enums) (nodes : Interner) (names : NodeNames) : Type 0 where
   pub within : length names.texts.items ≤ length (nodes_of nodes)
-  pub sound : (id : NodeId) (m : Meaning) → meaning_in nodes id ≡ Some m → IsTrue (is_some (text_at names id)) → IsTrue (is_none (meaning_fault enums m))
+  pub sound : (id : NodeId) (m : Meaning) → meaning_in nodes id ≡ Some m → IsTrue (is_some (text_at names id)) →
+      IsTrue (is_none (meaning_fault enums m))
 
 -- The node of a number: its label and the numbers of its parts, which stand before it.
 pub record IsNodeOf (nodes : Interner) (id : NodeId) (node : Node) : Type 0 where
   pub there : slice_get (nodes_of nodes) (place_of id) ≡ Some (plain_node node)
   pub label : (m : Meaning) → meaning_in nodes id ≡ Some m → plain_label node.label ≡ label_in m
-  pub parts : (m : Meaning) → meaning_in nodes id ≡ Some m → all_found (meanings (nodes_of nodes)) (places_of (ids_of node.parts)) ≡ Some (parts_in m)
+  pub parts : (m : Meaning) → meaning_in nodes id ≡ Some m →
+      all_found (meanings (nodes_of nodes)) (places_of (ids_of node.parts)) ≡ Some (parts_in m)
   pub earlier : AllByRecursion (λ place. place < place_of id) (places_of (ids_of node.parts))

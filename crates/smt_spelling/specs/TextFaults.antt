@@ -2,9 +2,10 @@
 use Rattle.std.specs.Prelude.{◌≡◌, Option, Some, None, Result, Ok, Err}
 use Rattle.std.specs.List.{list_all}
 use Rattle.std.specs.Rc.{rc_str_bytes}
-use Rattle.smt_types.specs.Entities.{bytes_of_id, bytes_of_type}
-use Rattle.smt_types.specs.PatternView.{plain_ord_pattern}
-use Rattle.law_terms.specs.Faults.{Fault, EmptyEnum, EncodeStringFailed, EncodePatternFailed, EnumMissingMember, fault_unless, is_pattern_part}
+use Rattle.smt_term.specs.Entities.{bytes_of_id, bytes_of_type}
+use Rattle.smt_term.specs.PatternView.{plain_ord_pattern}
+use Rattle.law_terms.specs.Faults.{Fault, EmptyEnum, EncodeStringFailed, EncodePatternFailed, EnumMissingMember, fault_unless}
+use Rattle.law_terms.specs.Faults.{is_pattern_part}
 use Rattle.law_terms.specs.Plain.{PlainOp, StringLikeOp}
 use Rattle.smt_spelling.specs.declared.error.TextError.{TextError}
 use Rattle.smt_spelling.specs.declared.error.TextError.TheVariants.{MissingMember, StringFailed, PatternFailed, EmptyEnum as NoMembers}

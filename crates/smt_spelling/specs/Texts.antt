@@ -1,5 +1,6 @@
 -- Texts that are kept at places of a list.
-use Rattle.std.specs.Prelude.{ℕ, suc, ◌≡◌, ◌==◌, if◌then◌else◌, Bool, List, [], ◌∷◌, Option, Some, None, drop, length, option_and_then, option_map, slice_get}
+use Rattle.std.specs.Prelude.{ℕ, suc, ◌≡◌, ◌==◌, if◌then◌else◌, Bool, List, [], ◌∷◌, Option, Some, None, drop, length, option_and_then}
+use Rattle.std.specs.Prelude.{option_map, slice_get}
 use Rattle.std.specs.List.{list_any}
 use Rattle.std.specs.Rc.{rc_str_bytes}
 use Rattle.std.specs.declared.alloc.Global.{Global}

@@ -22,7 +22,8 @@ IsWritten nodes texts m = (id : NodeId) × (meaning_in nodes id ≡ Some m) × I
 
 -- A number whose meaning has parts may have a text: where the meaning is typed, its parts are written.
 abbrev pub HasWrittenParts : Interner → (ℕ → Option (List ℕ)) → NodeId → Type 0
-HasWrittenParts nodes texts id = (m : Meaning) → meaning_in nodes id ≡ Some m → IsTrue (is_typed m) → AllByRecursion (IsWritten nodes texts) (parts_in m)
+HasWrittenParts nodes texts id =
+    (m : Meaning) → meaning_in nodes id ≡ Some m → IsTrue (is_typed m) → AllByRecursion (IsWritten nodes texts) (parts_in m)
 
 -- Each number that has a text has written parts. So what is typed and has a text leads to what has texts alone.
 abbrev pub HaveWrittenParts : Interner → (ℕ → Option (List ℕ)) → Type 0

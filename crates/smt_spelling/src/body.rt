@@ -6,7 +6,8 @@ ghost use Rattle.smt_bits.specs.Width.{bits_in};
 ghost use Rattle.smt_spelling.specs.Spelled.{AreSpelled};
 ghost use Rattle.smt_spelling.specs.TextFaults.{pattern_fault, text_fault, Finds};
 ghost use Rattle.law_lines.specs.LineForms as forms;
-ghost use Rattle.law_lines.specs.LineForms.{application_body, least_body, operator_head, with_pattern};
+ghost use Rattle.law_lines.specs.LineForms.{application_body, least_body, operator_head};
+ghost use Rattle.law_lines.specs.LineForms.{with_pattern};
 ghost use Rattle.law_lines.specs.Spelling.{spelled};
 ghost use Rattle.law_texts.specs.Reading.{Expression};
 ghost use Rattle.law_scripts.specs.WrittenStrings.{pattern_expr};
@@ -25,7 +26,10 @@ use std::alloc::{AllocError, Global};
 /// # Errors
 /// `PatternFailed` exactly where the operator's pattern has a character above `SMT_LIB_MAX_CODE_POINT`.
 pub fn application_body(alloc: Global, op: &Op, operands: Vec<Text>) -> Result<String, TextError>
-    ensures text { (es : List Expression) → AreSpelled es operands.items → IfOk result (λ text. string_bytes text ≡ spelled (application_body (operator_head (plain_op op.now)) (plain_op op.now) es)) }
+    ensures text { (es : List Expression) → AreSpelled es operands.items →
+        IfOk result (λ text.
+        string_bytes text
+        ≡ spelled (application_body (operator_head (plain_op op.now)) (plain_op op.now) es)) }
     ensures fault { Finds text_fault (pattern_fault (plain_op op.now)) result }
 {
     let head = head_text(alloc, op)?;
@@ -42,7 +46,10 @@ pub(crate) fn headed_body(
     op: &Op,
     mut operands: Vec<Text>,
 ) -> Result<String, TextError>
-    ensures text { (h : Expression) (es : List Expression) → head.now ≡ spelled h → AreSpelled es operands.items → IfOk result (λ text. string_bytes text ≡ spelled (application_body h (plain_op op.now) es)) }
+    ensures text { (h : Expression) (es : List Expression) → head.now ≡ spelled h →
+        AreSpelled es operands.items →
+        IfOk result
+        (λ text. string_bytes text ≡ spelled (application_body h (plain_op op.now) es)) }
     ensures fault { Finds text_fault (pattern_fault (plain_op op.now)) result }
 {
     push_pattern(alloc, op, &mut operands)?;
@@ -55,7 +62,8 @@ pub(crate) fn least_body(
     width: Width,
     mut operands: Vec<Text>,
 ) -> Result<String, AllocError>
-    ensures { (es : List Expression) → AreSpelled es operands.items → IfOk result (λ text. string_bytes text ≡ spelled (least_body (bits_in width) es)) }
+    ensures { (es : List Expression) → AreSpelled es operands.items →
+        IfOk result (λ text. string_bytes text ≡ spelled (least_body (bits_in width) es)) }
 {
     operands.push(bits_literal(alloc, &BitVec::int_min(width))?)?;
     application_text(alloc, "=", operands.as_slice())
@@ -63,7 +71,8 @@ pub(crate) fn least_body(
 
 /// Puts the pattern of `string.like` behind the operands. Where there are none, their empty text stands before it.
 fn push_pattern(alloc: Global, op: &Op, operands: &mut Vec<Text>) -> Result<(), TextError>
-    ensures operands { (es : List Expression) → AreSpelled es operands.old.items → OnOk result (AreSpelled (forms.operands (plain_op op.now) es) operands.new.items) }
+    ensures operands { (es : List Expression) → AreSpelled es operands.old.items →
+        OnOk result (AreSpelled (forms.operands (plain_op op.now) es) operands.new.items) }
     ensures fault { Finds text_fault (pattern_fault (plain_op op.now)) result }
 {
     match op {
@@ -82,7 +91,9 @@ fn push_expression(
     expression: Text,
     operands: &mut Vec<Text>,
 ) -> Result<(), AllocError>
-    ensures { (p : List PatternPart) (es : List Expression) → rc_str_bytes expression ≡ spelled (pattern_expr p) → AreSpelled es operands.old.items → OnOk result (AreSpelled (with_pattern p es) operands.new.items) }
+    ensures { (p : List PatternPart) (es : List Expression) →
+        rc_str_bytes expression ≡ spelled (pattern_expr p) → AreSpelled es operands.old.items →
+        OnOk result (AreSpelled (with_pattern p es) operands.new.items) }
 {
     if operands.is_empty() {
         operands.push(Text::from_str(alloc, "")?)?;

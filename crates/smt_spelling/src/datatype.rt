@@ -20,7 +20,8 @@ pub struct Datatype {
 impl Datatype {
     /// Puts its lines under a name.
     pub fn put<S: Sink>(&self, script: &mut S, name: &str) -> Result<(), SinkError>
-        ensures { Puts S.contents S.faults S.has_room S.place script.old script.new (datatype_bytes self.now name.now) result }
+        ensures { Puts S.contents S.faults S.has_room S.place script.old script.new
+            (datatype_bytes self.now name.now) result }
     {
         script.comment(self.comment.as_str())?;
         script.declare_datatype(name, &[], self.constructors.as_slice())
@@ -29,7 +30,8 @@ impl Datatype {
 
 /// Appends texts with a comma and a space between each two.
 pub(crate) fn push_commas(text: &mut String, pieces: &[Text]) -> Result<(), AllocError>
-    ensures { OnOk result (string_bytes text.new ≡ string_bytes text.old ++ comma_separated (texts pieces.now)) }
+    ensures { OnOk result
+        (string_bytes text.new ≡ string_bytes text.old ++ comma_separated (texts pieces.now)) }
 {
     let mut gap = "";
     for piece in pieces {

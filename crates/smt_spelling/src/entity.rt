@@ -1,14 +1,16 @@
 // Entity types and entities: their datatypes, and the entries of entities.
-ghost use Rattle.std.specs.Prelude.{◌≡◌, ◌++◌, ◌∷◌, [], IfOk, IfSome, bytes_eq, codes, is_some, map, option_map};
+ghost use Rattle.std.specs.Prelude.{◌≡◌, ◌++◌, ◌∷◌, [], IfOk, IfSome, bytes_eq, codes, is_some};
+ghost use Rattle.std.specs.Prelude.{map, option_map};
 ghost use Rattle.std.specs.List.{list_any};
 ghost use Rattle.std.specs.Rc.{rc_str_bytes};
 ghost use Rattle.std.specs.String.{string_bytes};
-ghost use Rattle.law_texts.specs.SharedTexts.{texts};
+ghost use Rattle.law_texts.specs.SharedTexts.{GivesText, texts};
 ghost use Rattle.law_terms.specs.Faults.{entity_fault, entity_type_fault};
-ghost use Rattle.smt_types.specs.Entities.{bytes_of_id, bytes_of_type};
-ghost use Rattle.smt_types.specs.TextSets.{texts_of};
+ghost use Rattle.smt_term.specs.Entities.{bytes_of_id, bytes_of_type};
+ghost use Rattle.smt_term.specs.TextSets.{texts_of};
 ghost use Rattle.law_lines.specs.Line.{spelled_constructor, spelled_lines, Bare};
-ghost use Rattle.law_lines.specs.LineForms.{entity_body, entity_constructors, entity_lines, member_constructors};
+ghost use Rattle.law_lines.specs.LineForms.{entity_body, entity_constructors, entity_lines};
+ghost use Rattle.law_lines.specs.LineForms.{member_constructors};
 ghost use Rattle.law_texts.specs.LineTexts.{comma_separated};
 ghost use Rattle.law_lines.specs.EntryNames.{member_name, place_of};
 ghost use Rattle.law_lines.specs.Spelling.{spelled};
@@ -37,8 +39,14 @@ pub fn entity_datatype(
     members: Option<&TextSet>,
     name: &str,
 ) -> Result<Datatype, TextError>
-    ensures lines { IfOk result (λ datatype. datatype_bytes datatype name.now ≡ spelled_lines (entity_lines (option_map (λ set. texts_of set.now) members.entry) (bytes_of_type ety.now) name.now)) }
-    ensures fault { Finds text_fault (entity_type_fault (bytes_of_type ety.now) (option_map (λ set. texts_of set.now) members.entry)) result }
+    ensures lines { IfOk result (λ datatype.
+        datatype_bytes datatype name.now
+        ≡ spelled_lines (entity_lines (option_map (λ set. texts_of set.now) members.entry)
+        (bytes_of_type ety.now) name.now)) }
+    ensures fault { Finds text_fault
+        (entity_type_fault (bytes_of_type ety.now)
+        (option_map (λ set. texts_of set.now) members.entry))
+        result }
 {
     match members {
         None => Ok(Datatype {
@@ -59,7 +67,8 @@ pub fn entity_datatype(
 
 /// `(E0 (E0_eid String))`, the constructor of entities, with the selector of the id.
 fn entity_constructors(alloc: Global, name: &str) -> Result<Vec<Text>, AllocError>
-    ensures { IfOk result (λ made. texts made.items ≡ map spelled_constructor (entity_constructors None name.now)) }
+    ensures { IfOk result
+        (λ made. texts made.items ≡ map spelled_constructor (entity_constructors None name.now)) }
 {
     let text = concat(alloc, &["(", name, " (", name, "_eid String))"])?;
     let constructor = Text::from_string(text)?;
@@ -70,7 +79,10 @@ fn entity_constructors(alloc: Global, name: &str) -> Result<Vec<Text>, AllocErro
 
 /// `T::[a, b]`, an enum type with its members.
 fn enum_comment(alloc: Global, ety: &EntityType, members: &TextSet) -> Result<String, AllocError>
-    ensures { IfOk result (λ comment. string_bytes comment ≡ bytes_of_type ety.now ++ (codes "::[" ++ (comma_separated (texts_of members.now) ++ codes "]"))) }
+    ensures { IfOk result (λ comment.
+        string_bytes comment
+        ≡ bytes_of_type ety.now
+        ++ (codes "::[" ++ (comma_separated (texts_of members.now) ++ codes "]"))) }
 {
     let mut comment = String::from_str(alloc, ety.0.as_str())?;
     comment.push_str("::[")?;
@@ -85,7 +97,9 @@ fn member_constructors(
     members: &TextSet,
     name: &str,
 ) -> Result<Vec<Text>, AllocError>
-    ensures { IfOk result (λ made. texts made.items ≡ map spelled_constructor (member_constructors name.now 0 (texts_of members.now))) }
+    ensures { IfOk result (λ made.
+        texts made.items
+        ≡ map spelled_constructor (member_constructors name.now 0 (texts_of members.now))) }
 {
     let count = members.len();
     let mut constructors = Vec::with_capacity(alloc, count)?;
@@ -97,7 +111,7 @@ fn member_constructors(
 
 /// `(E0_mi)`, the constructor of the member at a place.
 fn member_constructor(alloc: Global, name: &str, place: usize) -> Result<Text, AllocError>
-    ensures { IfOk result (λ constructor. rc_str_bytes constructor ≡ spelled_constructor (Bare (member_name name.now place))) }
+    ensures { GivesText result (spelled_constructor (Bare (member_name name.now place))) }
 {
     let mut digits = Buffer::new();
     Text::from_string(concat(alloc, &["(", name, "_m", digits.format(place), ")"])?)
@@ -115,8 +129,13 @@ pub fn entity_entry(
     entity: &EntityUID,
     sort: &str,
 ) -> Result<Entry, TextError>
-    ensures text { IfOk result (SaysEntry (stated.entity_entry (option_map (λ set. texts_of set.now) members.entry) (bytes_of_id entity.now.id) sort.now)) }
-    ensures fault { Finds text_fault (entity_fault (bytes_of_type entity.now.ety) (bytes_of_id entity.now.id) (option_map (λ set. texts_of set.now) members.entry)) result }
+    ensures text { IfOk result (SaysEntry (stated.entity_entry
+        (option_map (λ set. texts_of set.now) members.entry) (bytes_of_id entity.now.id)
+        sort.now)) }
+    ensures fault { Finds text_fault
+        (entity_fault (bytes_of_type entity.now.ety) (bytes_of_id entity.now.id)
+        (option_map (λ set. texts_of set.now) members.entry))
+        result }
 {
     match members {
         None => Ok(Entry::Body(entity_body(alloc, entity, sort)?)),
@@ -129,8 +148,10 @@ pub fn entity_entry(
 
 /// `(E0 "id")`, the constructor at the id.
 fn entity_body(alloc: Global, entity: &EntityUID, sort: &str) -> Result<String, TextError>
-    ensures text { IfOk result (λ body. string_bytes body ≡ spelled (entity_body sort.now (bytes_of_id entity.now.id))) }
-    ensures fault { Finds text_fault (entity_fault (bytes_of_type entity.now.ety) (bytes_of_id entity.now.id) None) result }
+    ensures text { IfOk result
+        (λ body. string_bytes body ≡ spelled (entity_body sort.now (bytes_of_id entity.now.id))) }
+    ensures fault { Finds text_fault
+        (entity_fault (bytes_of_type entity.now.ety) (bytes_of_id entity.now.id) None) result }
 {
     let id = string_literal(alloc, &entity.id.0)?;
     Ok(application_text(alloc, sort, &[id])?)
@@ -138,7 +159,7 @@ fn entity_body(alloc: Global, entity: &EntityUID, sort: &str) -> Result<String, 
 
 /// `E0_mi`, the name of the constructor of the member at a place.
 fn member_name(alloc: Global, sort: &str, place: usize) -> Result<Text, AllocError>
-    ensures { IfOk result (λ name. rc_str_bytes name ≡ member_name sort.now place) }
+    ensures { GivesText result (member_name sort.now place) }
 {
     let mut digits = Buffer::new();
     Text::from_string(concat(alloc, &[sort, "_m", digits.format(place)])?)
@@ -146,7 +167,8 @@ fn member_name(alloc: Global, sort: &str, place: usize) -> Result<Text, AllocErr
 
 /// The place of a text in a set, None where it is not there.
 fn place_in(set: &TextSet, text: &Text) -> Option<usize>
-    ensures place { IfSome result (λ place. place ≡ place_of (rc_str_bytes text.now) (texts_of set.now)) }
+    ensures place { IfSome result
+        (λ place. place ≡ place_of (rc_str_bytes text.now) (texts_of set.now)) }
     ensures some { is_some result ≡ list_any (bytes_eq (rc_str_bytes text.now)) (texts_of set.now) }
 {
     attribute_place(set.items(), text)

@@ -20,7 +20,8 @@ impl Entry {
 
     /// Puts its lines.
     pub fn put<S: Sink>(&self, script: &mut S, name: &str, sort: &str) -> Result<(), SinkError>
-        ensures { Puts S.contents S.faults S.has_room S.place script.old script.new (entry_bytes self.now name.now sort.now) result }
+        ensures { Puts S.contents S.faults S.has_room S.place script.old script.new
+            (entry_bytes self.now name.now sort.now) result }
     {
         match self {
             Entry::Constant(comment) => {

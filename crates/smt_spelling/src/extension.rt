@@ -1,15 +1,14 @@
 // Extension types: their datatypes, the bodies of their values, and the heads of their operators.
 ghost use Rattle.std.specs.Prelude.{◌≡◌, ◌∷◌, [], IfOk, IfSome, map, option_map};
-ghost use Rattle.std.specs.Rc.{rc_str_bytes};
 ghost use Rattle.std.specs.String.{string_bytes};
 ghost use Rattle.law_numbers.specs.BitVectors.{bits_of};
 ghost use Rattle.smt_bits.specs.BitVec.{number_of, width_of};
 ghost use Rattle.smt_bits.specs.Width.{bits_in};
-ghost use Rattle.law_texts.specs.SharedTexts.{texts};
+ghost use Rattle.law_texts.specs.SharedTexts.{GivesText, texts};
 ghost use Rattle.smt_ext.specs.ExtOrder.{plain_value};
 ghost use Rattle.smt_ext.specs.IpOrder.{plain_range};
 ghost use Rattle.smt_ext.specs.IpView.{range_of};
-ghost use Rattle.smt_types.specs.ExtensionView.{plain_extension_op, plain_kind};
+ghost use Rattle.smt_term.specs.ExtensionView.{plain_extension_op, plain_kind};
 ghost use Rattle.law_lines.specs.EntryNames.{kind_name};
 ghost use Rattle.law_lines.specs.Line.{spelled_constructor};
 ghost use Rattle.law_lines.specs.LineForms as forms;
@@ -38,7 +37,8 @@ pub fn extension_name(xty: ExtType) -> &'static str
 
 /// The constructors of the datatype of an extension type, with their selectors.
 pub fn extension_constructors(alloc: Global, xty: ExtType) -> Result<Vec<Text>, AllocError>
-    ensures { IfOk result (λ made. texts made.items ≡ map spelled_constructor (kind_constructors (plain_kind xty))) }
+    ensures { IfOk result
+        (λ made. texts made.items ≡ map spelled_constructor (kind_constructors (plain_kind xty))) }
 {
     let mut constructors = Vec::new(alloc);
     match xty {
@@ -85,7 +85,8 @@ pub fn extension_head(op: ExtOp) -> &'static str
 
 /// `(Decimal B)`, `(V4 B P)` and so on: the constructor of a value at its numbers.
 pub(crate) fn extension_text(alloc: Global, value: &Ext) -> Result<String, AllocError>
-    ensures { IfOk result (λ body. string_bytes body ≡ spelled (extension_body (plain_value value.now))) }
+    ensures { IfOk result
+        (λ body. string_bytes body ≡ spelled (extension_body (plain_value value.now))) }
 {
     match value {
         Ext::Decimal { d } => long_text(alloc, "Decimal", d.ten_thousandths),
@@ -97,7 +98,9 @@ pub(crate) fn extension_text(alloc: Global, value: &Ext) -> Result<String, Alloc
 
 /// `(Decimal B)`: a constructor at a number of 64 bits with sign.
 fn long_text(alloc: Global, constructor: &str, number: i64) -> Result<String, AllocError>
-    ensures { IfOk result (λ text. string_bytes text ≡ spelled (group (name constructor.now ∷ lines.bits 64 (bits_of 64 number) ∷ []))) }
+    ensures { IfOk result (λ text.
+        string_bytes text
+        ≡ spelled (group (name constructor.now ∷ lines.bits 64 (bits_of 64 number) ∷ []))) }
 {
     let bits = BitVec::of_int(SIXTY_FOUR, i128::from(number));
     let literal = bits_literal(alloc, &bits)?;
@@ -106,7 +109,8 @@ fn long_text(alloc: Global, constructor: &str, number: i64) -> Result<String, Al
 
 /// `(V4 B P)` or `(V6 B P)`: the constructor of a range at its address and its prefix.
 fn range_text(alloc: Global, range: &IPNet) -> Result<String, AllocError>
-    ensures { IfOk result (λ text. string_bytes text ≡ spelled (extension_body (plain_range (range_of range.now)))) }
+    ensures { IfOk result
+        (λ text. string_bytes text ≡ spelled (extension_body (plain_range (range_of range.now)))) }
 {
     match range {
         IPNet::V4(range) => {
@@ -125,7 +129,8 @@ fn range_text(alloc: Global, range: &IPNet) -> Result<String, AllocError>
 /// `(some B)` or `(as none (Option (_ BitVec n)))`: the prefix of a range.
 fn prefix_text(alloc: Global, width: Width, prefix: Option<&BitVec>) -> Result<Text, AllocError>
     ensures { IfSome prefix.entry (λ bits. width_of bits.now ≡ bits_in width) →
-        IfOk result (λ text. rc_str_bytes text ≡ spelled (forms.prefix_body (bits_in width) (option_map (λ bits. number_of bits.now) prefix.entry))) }
+        GivesText result (spelled (forms.prefix_body (bits_in width)
+        (option_map (λ bits. number_of bits.now) prefix.entry))) }
 {
     match prefix {
         Some(bits) => {

@@ -1,22 +1,27 @@
 // The nodes of terms, and the texts that stand for them.
 #![tactic(auto, using(smt_term::specs::View::views))]
 
-ghost use Rattle.std.specs.Prelude.{◌≡◌, ◌<◌, ◌++◌, ◌∷◌, ◌+◌, List, [], false, IfOk, IsTrue, None, OnErr, OnOk, Some, length, map, not, option_map};
+ghost use Rattle.std.specs.Prelude.{◌≡◌, ◌<◌, ◌++◌, ◌∷◌, ◌+◌, List, [], false, IfOk, IsTrue, None};
+ghost use Rattle.std.specs.Prelude.{OnErr, OnOk, Some, length, map, not};
+ghost use Rattle.std.specs.Prelude.{option_map};
 ghost use Rattle.std.specs.Rc.{rc_str_bytes};
 ghost use Rattle.law_terms.specs.Plain.{PlainFunction, PlainTerm, PlainType};
 ghost use Rattle.law_terms.specs.Meanings.{all_found, meanings};
 ghost use Rattle.law_terms.specs.Nodes.{FunctionMeaning, Meaning, TermMeaning, TypeMeaning};
-ghost use Rattle.smt_nodes.specs.Interned.{meaning_in, nodes_of, IsMeant, KeepsMeanings};
+ghost use Rattle.smt_nodes.specs.Interned.{IsMeant, IsNumber, KeepsMeanings, meaning_in, nodes_of};
 ghost use Rattle.smt_nodes.specs.Subject.{meaning_of};
 ghost use Rattle.smt_nodes.specs.View.{place_of, places_of};
-ghost use Rattle.smt_types.specs.Enums.{enums_of};
-ghost use Rattle.smt_term.specs.View.{plain_term, plain_type};
+ghost use Rattle.smt_term.specs.Enums.{enums_of};
+ghost use Rattle.smt_term.specs.View.{plain_term, plain_terms, plain_type};
 ghost use Rattle.law_lines.specs.Lines.{next_entity, next_function, next_record, next_term};
 ghost use Rattle.law_lines.specs.NameTables.{Tables, no_names};
 ghost use Rattle.smt_spelling.specs.NodeLines.{has_entry, meaning_fault, with_name};
-ghost use Rattle.smt_spelling.specs.NodeTexts.{kept_below, kept_now, text_at, AreSound, HasName, HasNoTexts, IsNodeOf, IsText, Kept, KeepsRoom};
+ghost use Rattle.smt_spelling.specs.NodeTexts.{kept_below, kept_now, text_at, AreSound, HasName};
+ghost use Rattle.smt_spelling.specs.NodeTexts.{HasNoTexts, IsNodeOf, IsText, Kept};
+ghost use Rattle.smt_spelling.specs.NodeTexts.{KeepsRoom};
 ghost use Rattle.smt_spelling.specs.Texts.{IsKept};
 ghost use Rattle.smt_spelling.specs.Whole.{AreWhole, HasWrittenParts};
+ghost use Rattle.law_texts.specs.SharedTexts.{GivesText};
 
 use crate::node_names::NodeNames;
 use crate::spell::{entity_name, function_name, record_name, term_name};
@@ -95,7 +100,9 @@ impl Drop for Names<'_> {
 }
 
 impl<'a> Names<'a> {
-    ghost use Rattle.smt_spelling.specs.Names.{enums_under, levels_under, nodes_under, texts_under, AreTables, KeepLevels, KeepTables, HasRoom, StandsOn};
+    ghost use Rattle.smt_spelling.specs.Names.{enums_under, levels_under, nodes_under, texts_under};
+    ghost use Rattle.smt_spelling.specs.Names.{AreTables, KeepLevels, KeepTables};
+    ghost use Rattle.smt_spelling.specs.Names.{HasRoom, StandsOn};
 
     /// There are no names yet, for these nodes and enum types, and no push is open. It takes no memory.
     pub fn new(alloc: Global, enums: &'a EnumTable, nodes: Interner) -> Names<'a>
@@ -137,7 +144,8 @@ impl<'a> Names<'a> {
 
     /// It gives the text of a node, and None exactly where the node has none. It is one look-up, and takes no memory.
     pub fn text<L: Ledger>(&self, id: NodeId, steps: &mut Steps<L>) -> Option<&Text>
-        ensures text { option_map (λ text. rc_str_bytes text.now) result ≡ text_at (texts_under self.now) id }
+        ensures text { option_map (λ text. rc_str_bytes text.now) result
+            ≡ text_at (texts_under self.now) id }
         ensures counted { steps.new ≡ steps.old + 1 }
     {
         self.texts.get(id, steps)
@@ -150,7 +158,8 @@ impl<'a> Names<'a> {
         requires name { blank.name ≡ L.name }
         requires parts { blank.parts ≡ L.parts }
         requires some { 0 < blank.parts }
-        ensures { HasName (nodes_under self.now) (texts_under self.now) (meaning_of subject.entry) (option_map (λ name. rc_str_bytes name.now) result) }
+        ensures { HasName (nodes_under self.now) (texts_under self.now) (meaning_of subject.entry)
+            (option_map (λ name. rc_str_bytes name.now) result) }
     {
         // The text of such a subject is no name.
         if is_inline(subject) {
@@ -183,11 +192,14 @@ impl<'a> Names<'a> {
     ///
     /// Only that there is no memory.
     pub fn intern(&mut self, terms: &[Term]) -> Result<Vec<NodeId>, TermError>
-        ensures meanings { IfOk result (λ ids. all_found (meanings (nodes_of (nodes_under self.new))) (places_of ids.items) ≡ Some (map TermMeaning (map plain_term terms.now))) }
+        ensures meanings { IfOk result (λ ids.
+            all_found (meanings (nodes_of (nodes_under self.new))) (places_of ids.items)
+            ≡ Some (map TermMeaning (plain_terms terms.now))) }
         ensures kept { KeepsMeanings (nodes_under self.old) (nodes_under self.new) }
         ensures texts { texts_under self.new ≡ texts_under self.old }
         ensures tables { (s : Tables) → KeepTables self.old s → KeepTables self.new s }
-        ensures levels { (below : List Tables) → KeepLevels self.old below → KeepLevels self.new below }
+        ensures levels { (below : List Tables) → KeepLevels self.old below →
+            KeepLevels self.new below }
         ensures below { kept_below (texts_under self.new) ≡ kept_below (texts_under self.old) }
         ensures enums { enums_under self.new ≡ enums_under self.old }
     {
@@ -200,10 +212,12 @@ impl<'a> Names<'a> {
     ///
     /// Only that there is no memory.
     pub fn intern_subject(&mut self, subject: Subject<'_>) -> Result<NodeId, TermError>
-        ensures meaning { IfOk result (λ id. meaning_in (nodes_under self.new) id ≡ Some (meaning_of subject.entry)) }
+        ensures meaning { IfOk result
+            (λ id. meaning_in (nodes_under self.new) id ≡ Some (meaning_of subject.entry)) }
         ensures kept { KeepsMeanings (nodes_under self.old) (nodes_under self.new) }
         ensures tables { (s : Tables) → KeepTables self.old s → KeepTables self.new s }
-        ensures levels { (below : List Tables) → KeepLevels self.old below → KeepLevels self.new below }
+        ensures levels { (below : List Tables) → KeepLevels self.old below →
+            KeepLevels self.new below }
         ensures below { kept_below (texts_under self.new) ≡ kept_below (texts_under self.old) }
         ensures enums { enums_under self.new ≡ enums_under self.old }
     {
@@ -218,9 +232,11 @@ impl<'a> Names<'a> {
     pub fn make_room(&mut self) -> Result<(), AllocError>
         ensures room { OnOk result (HasRoom self.new) }
         ensures nodes { nodes_under self.new ≡ nodes_under self.old }
-        ensures texts { (id : NodeId) → text_at (texts_under self.new) id ≡ text_at (texts_under self.old) id }
+        ensures texts { (id : NodeId) →
+            text_at (texts_under self.new) id ≡ text_at (texts_under self.old) id }
         ensures tables { (s : Tables) → KeepTables self.old s → KeepTables self.new s }
-        ensures levels { (below : List Tables) → KeepLevels self.old below → KeepLevels self.new below }
+        ensures levels { (below : List Tables) → KeepLevels self.old below →
+            KeepLevels self.new below }
         ensures below { kept_below (texts_under self.new) ≡ kept_below (texts_under self.old) }
         ensures enums { enums_under self.new ≡ enums_under self.old }
     {
@@ -245,11 +261,15 @@ impl<'a> Names<'a> {
         ensures enums { enums_under self.new ≡ enums_under self.old }
         ensures now { kept_now (texts_under self.new) ≡ kept_now (texts_under self.old) }
         ensures room { KeepsRoom (texts_under self.old) (texts_under self.new) }
-        ensures opened { OnOk result (kept_below (texts_under self.new) ≡ kept_now (texts_under self.old) ∷ kept_below (texts_under self.old)) }
-        ensures unopened { OnErr result (kept_below (texts_under self.new) ≡ kept_below (texts_under self.old)) }
+        ensures opened { OnOk result (kept_below (texts_under self.new)
+            ≡ kept_now (texts_under self.old) ∷ kept_below (texts_under self.old)) }
+        ensures unopened { OnErr result
+            (kept_below (texts_under self.new) ≡ kept_below (texts_under self.old)) }
         ensures tables { (s : Tables) → KeepTables self.old s → KeepTables self.new s }
-        ensures levels { (s : Tables) (below : List Tables) → KeepTables self.old s → KeepLevels self.old below → OnOk result (KeepLevels self.new (s ∷ below)) }
-        ensures unlevelled { (below : List Tables) → KeepLevels self.old below → OnErr result (KeepLevels self.new below) }
+        ensures levels { (s : Tables) (below : List Tables) → KeepTables self.old s →
+            KeepLevels self.old below → OnOk result (KeepLevels self.new (s ∷ below)) }
+        ensures unlevelled { (below : List Tables) → KeepLevels self.old below →
+            OnErr result (KeepLevels self.new below) }
         ensures count { OnOk result (levels_under self.new ≡ levels_under self.old + 1) }
     {
         self.texts.push_level()
@@ -262,8 +282,10 @@ impl<'a> Names<'a> {
         ensures nodes { nodes_under self.new ≡ nodes_under self.old }
         ensures enums { enums_under self.new ≡ enums_under self.old }
         ensures room { KeepsRoom (texts_under self.old) (texts_under self.new) }
-        ensures levels { (k : Kept) (ks : List Kept) → kept_below (texts_under self.old) ≡ k ∷ ks → (kept_now (texts_under self.new) ≡ k) × (kept_below (texts_under self.new) ≡ ks) }
-        ensures tables { (s : Tables) (below : List Tables) → KeepLevels self.old (s ∷ below) → KeepTables self.new s × KeepLevels self.new below }
+        ensures levels { (k : Kept) (ks : List Kept) → kept_below (texts_under self.old) ≡ k ∷ ks →
+            (kept_now (texts_under self.new) ≡ k) × (kept_below (texts_under self.new) ≡ ks) }
+        ensures tables { (s : Tables) (below : List Tables) → KeepLevels self.old (s ∷ below) →
+            KeepTables self.new s × KeepLevels self.new below }
         ensures count { levels_under self.old ≡ levels_under self.new + 1 }
     {
         self.texts.pop_level();
@@ -282,7 +304,7 @@ impl<'a> Names<'a> {
     ///
     /// Only that there is no memory.
     pub fn next_term(&self) -> Result<Text, AllocError>
-        ensures { (s : Tables) → AreTables self.now s → IfOk result (λ name. rc_str_bytes name ≡ next_term s) }
+        ensures { (s : Tables) → AreTables self.now s → GivesText result (next_term s) }
     {
         term_name(self.alloc, self.texts.terms)
     }
@@ -293,7 +315,7 @@ impl<'a> Names<'a> {
     ///
     /// Only that there is no memory.
     pub fn next_entity(&self) -> Result<Text, AllocError>
-        ensures { (s : Tables) → AreTables self.now s → IfOk result (λ name. rc_str_bytes name ≡ next_entity s) }
+        ensures { (s : Tables) → AreTables self.now s → GivesText result (next_entity s) }
     {
         entity_name(self.alloc, self.texts.types)
     }
@@ -304,7 +326,7 @@ impl<'a> Names<'a> {
     ///
     /// Only that there is no memory.
     pub fn next_record(&self) -> Result<Text, AllocError>
-        ensures { (s : Tables) → AreTables self.now s → IfOk result (λ name. rc_str_bytes name ≡ next_record s) }
+        ensures { (s : Tables) → AreTables self.now s → GivesText result (next_record s) }
     {
         record_name(self.alloc, self.texts.types)
     }
@@ -315,22 +337,28 @@ impl<'a> Names<'a> {
     ///
     /// Only that there is no memory.
     pub fn next_function(&self) -> Result<Text, AllocError>
-        ensures { (s : Tables) → AreTables self.now s → IfOk result (λ name. rc_str_bytes name ≡ next_function s) }
+        ensures { (s : Tables) → AreTables self.now s → GivesText result (next_function s) }
     {
         function_name(self.alloc, self.texts.functions)
     }
 
-    /// It keeps the inline text of a node that has no text yet, and neither an entry nor a fault. There has to be room for it, and where what
+    /// It keeps the inline text of a node that has no text yet, and neither an entry nor a fault. There has to be room for it, and where
+    /// what
     /// the number stands for is typed, its parts have to have texts.
     pub fn keep(&mut self, id: NodeId, text: Text)
         requires room { HasRoom self.old }
         requires unkept { text_at (texts_under self.old) id ≡ None }
         requires meant { IsMeant (nodes_under self.old) id }
-        requires sound { (m : Meaning) → meaning_in (nodes_under self.old) id ≡ Some m → meaning_fault (enums_under self.old) m ≡ None }
-        requires parts { HasWrittenParts (nodes_under self.old) (kept_now (texts_under self.old)).texts id }
-        ensures tables { (s : Tables) (m : Meaning) → KeepTables self.old s → meaning_in (nodes_under self.old) id ≡ Some m → has_entry m ≡ false → IsText (enums_under self.old) s m (rc_str_bytes text) → KeepTables self.new s }
+        requires sound { (m : Meaning) → meaning_in (nodes_under self.old) id ≡ Some m →
+            meaning_fault (enums_under self.old) m ≡ None }
+        requires parts { HasWrittenParts (nodes_under self.old)
+            (kept_now (texts_under self.old)).texts id }
+        ensures tables { (s : Tables) (m : Meaning) → KeepTables self.old s →
+            meaning_in (nodes_under self.old) id ≡ Some m → has_entry m ≡ false →
+            IsText (enums_under self.old) s m (rc_str_bytes text) → KeepTables self.new s }
         ensures stands { StandsOn self.old self.new }
-        ensures kept { IsKept (texts_under self.old).texts.items (texts_under self.new).texts.items (place_of id) (rc_str_bytes text) }
+        ensures kept { IsKept (texts_under self.old).texts.items (texts_under self.new).texts.items
+            (place_of id) (rc_str_bytes text) }
     {
         self.texts.keep(id, text);
     }
@@ -341,12 +369,16 @@ impl<'a> Names<'a> {
         requires room { HasRoom self.old }
         requires unkept { text_at (texts_under self.old) id ≡ None }
         requires meant { IsMeant (nodes_under self.old) id }
-        requires sound { (m : Meaning) → meaning_in (nodes_under self.old) id ≡ Some m → meaning_fault (enums_under self.old) m ≡ None }
-        requires parts { HasWrittenParts (nodes_under self.old) (kept_now (texts_under self.old)).texts id }
-        ensures tables { (s : Tables) (t : PlainTerm) → KeepTables self.old s → meaning_in (nodes_under self.old) id ≡ Some (TermMeaning t) → IsTrue (has_entry (TermMeaning t)) →
+        requires sound { (m : Meaning) → meaning_in (nodes_under self.old) id ≡ Some m →
+            meaning_fault (enums_under self.old) m ≡ None }
+        requires parts { HasWrittenParts (nodes_under self.old)
+            (kept_now (texts_under self.old)).texts id }
+        ensures tables { (s : Tables) (t : PlainTerm) → KeepTables self.old s →
+            IsNumber (nodes_under self.old) id t → IsTrue (has_entry (TermMeaning t)) →
             KeepTables self.new (with_name s (TermMeaning t) (rc_str_bytes name)) }
         ensures stands { StandsOn self.old self.new }
-        ensures kept { IsKept (texts_under self.old).texts.items (texts_under self.new).texts.items (place_of id) (rc_str_bytes name) }
+        ensures kept { IsKept (texts_under self.old).texts.items (texts_under self.new).texts.items
+            (place_of id) (rc_str_bytes name) }
     {
         self.texts.enter_term(id, name);
     }
@@ -357,12 +389,17 @@ impl<'a> Names<'a> {
         requires room { HasRoom self.old }
         requires unkept { text_at (texts_under self.old) id ≡ None }
         requires meant { IsMeant (nodes_under self.old) id }
-        requires sound { (m : Meaning) → meaning_in (nodes_under self.old) id ≡ Some m → meaning_fault (enums_under self.old) m ≡ None }
-        requires parts { HasWrittenParts (nodes_under self.old) (kept_now (texts_under self.old)).texts id }
-        ensures tables { (s : Tables) (t : PlainType) → KeepTables self.old s → meaning_in (nodes_under self.old) id ≡ Some (TypeMeaning t) → IsTrue (has_entry (TypeMeaning t)) →
+        requires sound { (m : Meaning) → meaning_in (nodes_under self.old) id ≡ Some m →
+            meaning_fault (enums_under self.old) m ≡ None }
+        requires parts { HasWrittenParts (nodes_under self.old)
+            (kept_now (texts_under self.old)).texts id }
+        ensures tables { (s : Tables) (t : PlainType) → KeepTables self.old s →
+            meaning_in (nodes_under self.old) id ≡ Some (TypeMeaning t) →
+            IsTrue (has_entry (TypeMeaning t)) →
             KeepTables self.new (with_name s (TypeMeaning t) (rc_str_bytes name)) }
         ensures stands { StandsOn self.old self.new }
-        ensures kept { IsKept (texts_under self.old).texts.items (texts_under self.new).texts.items (place_of id) (rc_str_bytes name) }
+        ensures kept { IsKept (texts_under self.old).texts.items (texts_under self.new).texts.items
+            (place_of id) (rc_str_bytes name) }
     {
         self.texts.enter_type(id, name);
     }
@@ -373,12 +410,16 @@ impl<'a> Names<'a> {
         requires room { HasRoom self.old }
         requires unkept { text_at (texts_under self.old) id ≡ None }
         requires meant { IsMeant (nodes_under self.old) id }
-        requires sound { (m : Meaning) → meaning_in (nodes_under self.old) id ≡ Some m → meaning_fault (enums_under self.old) m ≡ None }
-        requires parts { HasWrittenParts (nodes_under self.old) (kept_now (texts_under self.old)).texts id }
-        ensures tables { (s : Tables) (f : PlainFunction) → KeepTables self.old s → meaning_in (nodes_under self.old) id ≡ Some (FunctionMeaning f) →
+        requires sound { (m : Meaning) → meaning_in (nodes_under self.old) id ≡ Some m →
+            meaning_fault (enums_under self.old) m ≡ None }
+        requires parts { HasWrittenParts (nodes_under self.old)
+            (kept_now (texts_under self.old)).texts id }
+        ensures tables { (s : Tables) (f : PlainFunction) → KeepTables self.old s →
+            meaning_in (nodes_under self.old) id ≡ Some (FunctionMeaning f) →
             KeepTables self.new (with_name s (FunctionMeaning f) (rc_str_bytes name)) }
         ensures stands { StandsOn self.old self.new }
-        ensures kept { IsKept (texts_under self.old).texts.items (texts_under self.new).texts.items (place_of id) (rc_str_bytes name) }
+        ensures kept { IsKept (texts_under self.old).texts.items (texts_under self.new).texts.items
+            (place_of id) (rc_str_bytes name) }
     {
         self.texts.enter_function(id, name);
     }

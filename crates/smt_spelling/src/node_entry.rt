@@ -1,9 +1,12 @@
 // How nodes are entered: the text of what has no entry, and an entry's own lines.
 #![tactic(auto, using(smt_term::specs::View::views))]
 
-ghost use Rattle.std.specs.Prelude.{◌≡◌, ◌≤◌, List, IfOk, IsTrue, None, Some, is_some, length, nat_eq};
+ghost use Rattle.std.specs.Prelude.{◌≡◌, ◌≤◌, List, IfOk, IsTrue, None, Some, is_some, length};
+ghost use Rattle.std.specs.Prelude.{nat_eq};
 ghost use Rattle.smt_spelling.specs.NodeEntries as stated;
-ghost use Rattle.smt_spelling.specs.NodeEntries.{call_body, entry_by, entry_fault, has_inline, inline_by, inline_fault, is_entered, literal_entry_fault};
+ghost use Rattle.smt_spelling.specs.NodeEntries.{call_body, entry_by, entry_fault, has_inline};
+ghost use Rattle.smt_spelling.specs.NodeEntries.{inline_by, inline_fault, is_entered};
+ghost use Rattle.smt_spelling.specs.NodeEntries.{literal_entry_fault};
 ghost use Rattle.smt_spelling.specs.NodeLines.{is_entered_literal};
 ghost use Rattle.smt_spelling.specs.Entries.{ByBody, SaysEntry, SaysInline};
 ghost use Rattle.smt_spelling.specs.Spelled.{AreSpelled};
@@ -17,7 +20,7 @@ ghost use Rattle.law_lines.specs.Lines.{Enums};
 ghost use Rattle.law_lines.specs.Spelling.{spelled};
 ghost use Rattle.law_terms.specs.Nodes.{ApplicationLabel, CallLabel, OptionLabel, SetLabel};
 ghost use Rattle.smt_nodes.specs.View.{plain_label};
-ghost use Rattle.smt_types.specs.Enums.{enums_of};
+ghost use Rattle.smt_term.specs.Enums.{enums_of};
 ghost use Rattle.smt_term.specs.View.{plain_literal, plain_op};
 
 use crate::body::{headed_body, least_body};
@@ -34,7 +37,8 @@ use std::alloc::{AllocError, Global};
 
 /// The sort of options of the one sort, None where there are more or less than one.
 fn option_text(alloc: Global, parts: &[Text]) -> Result<Option<Text>, AllocError>
-    ensures text { (es : List Expression) → AreSpelled es parts.now → IfOk result (SaysInline (inline_by OptionLabel es)) }
+    ensures text { (es : List Expression) → AreSpelled es parts.now →
+        IfOk result (SaysInline (inline_by OptionLabel es)) }
     ensures some { IfOk result (λ found. is_some found ≡ nat_eq (length parts.now) 1) }
 {
     match parts {
@@ -45,7 +49,8 @@ fn option_text(alloc: Global, parts: &[Text]) -> Result<Option<Text>, AllocError
 
 /// The sort of sets of the one sort, None where there are more or less than one.
 fn set_sort_text(alloc: Global, parts: &[Text]) -> Result<Option<Text>, AllocError>
-    ensures text { (es : List Expression) → AreSpelled es parts.now → IfOk result (SaysInline (inline_by SetLabel es)) }
+    ensures text { (es : List Expression) → AreSpelled es parts.now →
+        IfOk result (SaysInline (inline_by SetLabel es)) }
     ensures some { IfOk result (λ found. is_some found ≡ nat_eq (length parts.now) 1) }
 {
     match parts {
@@ -61,8 +66,10 @@ fn set_sort_text(alloc: Global, parts: &[Text]) -> Result<Option<Text>, AllocErr
 /// `StringFailed` comes exactly of a string literal with a character above the greatest of SMT-LIB, unless there is no memory
 /// first. `Memory` comes where there is no memory.
 pub fn inline_text(alloc: Global, label: &Label, parts: &[Text]) -> Result<Option<Text>, TextError>
-    ensures text { (es : List Expression) → AreSpelled es parts.now → IfOk result (SaysInline (inline_by (plain_label label.now) es)) }
-    ensures some { IfOk result (λ found. is_some found ≡ has_inline (plain_label label.now) (length parts.now)) }
+    ensures text { (es : List Expression) → AreSpelled es parts.now →
+        IfOk result (SaysInline (inline_by (plain_label label.now) es)) }
+    ensures some { IfOk result
+        (λ found. is_some found ≡ has_inline (plain_label label.now) (length parts.now)) }
     ensures fault { Finds text_fault (inline_fault (plain_label label.now)) result }
 {
     match label {
@@ -91,7 +98,10 @@ fn body_behind(
     selector: Option<Text>,
     operands: Vec<Text>,
 ) -> Result<String, TextError>
-    ensures text { (h : Expression) (es : List Expression) → BeginsWith (plain_op op.now) selector h → AreSpelled es operands.items → IfOk result (λ text. string_bytes text ≡ spelled (application_body h (plain_op op.now) es)) }
+    ensures text { (h : Expression) (es : List Expression) →
+        BeginsWith (plain_op op.now) selector h → AreSpelled es operands.items →
+        IfOk result
+        (λ text. string_bytes text ≡ spelled (application_body h (plain_op op.now) es)) }
     ensures fault { Finds text_fault (pattern_fault (plain_op op.now)) result }
 {
     match selector {
@@ -108,8 +118,14 @@ fn application_entry(
     selector: Option<Text>,
     operands: Vec<Text>,
 ) -> Result<Entry, TextError>
-    ensures text { (h : Expression) (es : List Expression) → BeginsWith (plain_op op.now) selector h → AreSpelled es operands.items → IfOk result (SaysEntry (stated.application_entry (plain_rendering rendering) (plain_op op.now) h es)) }
-    ensures fault { (enums : Enums) → Finds text_fault (entry_fault enums (ApplicationLabel (plain_op op.now)) (plain_rendering rendering)) result }
+    ensures text { (h : Expression) (es : List Expression) →
+        BeginsWith (plain_op op.now) selector h → AreSpelled es operands.items →
+        IfOk result
+        (SaysEntry (stated.application_entry (plain_rendering rendering) (plain_op op.now) h es)) }
+    ensures fault { (enums : Enums) →
+        Finds text_fault
+        (entry_fault enums (ApplicationLabel (plain_op op.now)) (plain_rendering rendering))
+        result }
 {
     match rendering {
         Rendering::Application | Rendering::Call => {
@@ -123,7 +139,8 @@ fn application_entry(
 /// How a call is entered, by the texts of its arguments and then of its function.
 fn call_entry(alloc: Global, mut operands: Vec<Text>) -> Result<Entry, TextError>
     requires { 1 ≤ length operands.items }
-    ensures text { (es : List Expression) → AreSpelled es operands.items → IfOk result (SaysEntry (ByBody (call_body es))) }
+    ensures text { (es : List Expression) → AreSpelled es operands.items →
+        IfOk result (SaysEntry (ByBody (call_body es))) }
     ensures fault { Finds text_fault None result }
 {
     match operands.pop() {
@@ -144,8 +161,11 @@ fn literal_entry(
     sort: &str,
 ) -> Result<Entry, TextError>
     requires { IsTrue (is_entered_literal (plain_literal literal.now)) }
-    ensures text { (e : Expression) → sort.now ≡ spelled e → IfOk result (SaysEntry (stated.literal_entry (enums_of enums.now) (plain_literal literal.now) e)) }
-    ensures fault { Finds text_fault (literal_entry_fault (enums_of enums.now) (plain_literal literal.now)) result }
+    ensures text { (e : Expression) → sort.now ≡ spelled e →
+        IfOk result
+        (SaysEntry (stated.literal_entry (enums_of enums.now) (plain_literal literal.now) e)) }
+    ensures fault { Finds text_fault
+        (literal_entry_fault (enums_of enums.now) (plain_literal literal.now)) result }
 {
     match literal {
         TermPrim::Entity(entity) => {
@@ -185,8 +205,15 @@ pub fn entry_from(
 ) -> Result<Entry, TextError>
     requires entered { IsTrue (is_entered (plain_label shape.label.now)) }
     requires called { plain_label shape.label.now ≡ CallLabel → 1 ≤ length operands.items }
-    ensures text { (h e : Expression) (es : List Expression) → IsHead (plain_label shape.entry.label.now) shape.entry.selector h → sort.now ≡ spelled e → AreSpelled es operands.items → IfOk result (SaysEntry (entry_by (enums_of enums.now) (plain_label shape.entry.label.now) (plain_rendering shape.entry.rendering) h e es)) }
-    ensures fault { Finds text_fault (entry_fault (enums_of enums.now) (plain_label shape.entry.label.now) (plain_rendering shape.entry.rendering)) result }
+    ensures text { (h e : Expression) (es : List Expression) →
+        IsHead (plain_label shape.entry.label.now) shape.entry.selector h → sort.now ≡ spelled e →
+        AreSpelled es operands.items →
+        IfOk result (SaysEntry (entry_by (enums_of enums.now) (plain_label shape.entry.label.now)
+        (plain_rendering shape.entry.rendering) h e es)) }
+    ensures fault { Finds text_fault
+        (entry_fault (enums_of enums.now) (plain_label shape.entry.label.now)
+        (plain_rendering shape.entry.rendering))
+        result }
 {
     match shape.label {
         Label::App(op) => application_entry(alloc, op, shape.rendering, shape.selector, operands),

@@ -1,7 +1,8 @@
 // The texts of nodes, by their numbers.
 #![tactic(auto, using(smt_term::specs::View::views))]
 
-ghost use Rattle.std.specs.Prelude.{◌≡◌, ◌≤◌, ◌<◌, ◌+◌, ◌++◌, ◌∷◌, ℕ, List, [], None, OnErr, OnOk, length, option_map, reverse};
+ghost use Rattle.std.specs.Prelude.{◌≡◌, ◌≤◌, ◌<◌, ◌+◌, ◌++◌, ◌∷◌, ℕ, List, [], None, OnErr, OnOk};
+ghost use Rattle.std.specs.Prelude.{length, option_map, reverse};
 ghost use Rattle.std.specs.Rc.{rc_str_bytes};
 ghost use Rattle.std.specs.Vec.{vec_capacity};
 ghost use Rattle.smt_spelling.specs.Marks.{AreMarks, AreMarks-prop};
@@ -39,7 +40,8 @@ pub struct NodeNames {
 }
 
 impl NodeNames {
-    ghost use Rattle.smt_spelling.specs.NodeTexts.{kept_at_mark, kept_below, kept_now, text_at, Kept, KeepsRoom};
+    ghost use Rattle.smt_spelling.specs.NodeTexts.{kept_at_mark, kept_below, kept_now, text_at};
+    ghost use Rattle.smt_spelling.specs.NodeTexts.{Kept, KeepsRoom};
     ghost use Rattle.smt_spelling.specs.declared.node_names.Mark.{Mark};
 
     /// No text yet, and no open push. Takes no memory.
@@ -82,7 +84,8 @@ impl NodeNames {
         ensures room { OnOk result (length self.new.texts.items ≡ nodes) }
         ensures order { OnOk result (nodes ≤ vec_capacity self.new.order) }
         ensures within { length self.new.texts.items ≤ nodes }
-        ensures texts { (place : ℕ) → kept_at self.new.texts.items place ≡ kept_at self.old.texts.items place }
+        ensures texts { (place : ℕ) →
+            kept_at self.new.texts.items place ≡ kept_at self.old.texts.items place }
         ensures below { kept_below self.new ≡ kept_below self.old }
         ensures terms { self.new.terms ≡ self.old.terms }
         ensures types { self.new.types ≡ self.old.types }
@@ -98,9 +101,11 @@ impl NodeNames {
     pub(crate) fn push_level(&mut self) -> Result<(), AllocError>
         ensures now { kept_now self.new ≡ kept_now self.old }
         ensures room { KeepsRoom self.old self.new }
-        ensures opened { OnOk result (kept_below self.new ≡ kept_now self.old ∷ kept_below self.old) }
+        ensures opened { OnOk result
+            (kept_below self.new ≡ kept_now self.old ∷ kept_below self.old) }
         ensures unopened { OnErr result (kept_below self.new ≡ kept_below self.old) }
-        ensures count { OnOk result (length self.new.marks.items ≡ length self.old.marks.items + 1) }
+        ensures count { OnOk result
+            (length self.new.marks.items ≡ length self.old.marks.items + 1) }
     {
         let mark = Mark {
             kept: self.order.len(),
@@ -115,7 +120,8 @@ impl NodeNames {
     /// Closes the last level: what was kept at its push is kept now. Takes no memory.
     pub(crate) fn pop_level(&mut self)
         requires { 0 < length self.old.marks.items }
-        ensures levels { (k : Kept) (ks : List Kept) → kept_below self.old ≡ k ∷ ks → (kept_now self.new ≡ k) × (kept_below self.new ≡ ks) }
+        ensures levels { (k : Kept) (ks : List Kept) → kept_below self.old ≡ k ∷ ks →
+            (kept_now self.new ≡ k) × (kept_below self.new ≡ ks) }
         ensures room { KeepsRoom self.old self.new }
         ensures count { length self.old.marks.items ≡ length self.new.marks.items + 1 }
     {
@@ -131,8 +137,11 @@ impl NodeNames {
         requires kept { kept ≤ length self.old.order.items }
         requires named { self.old.terms + self.old.types + self.old.functions ≤ kept }
         requires marked { AreMarks kept (reverse self.old.marks.items) }
-        ensures texts { (place : ℕ) → kept_at self.new.texts.items place ≡ kept_then (kept_at self.old.texts.items) (places_of self.old.order.items) kept place }
-        ensures levels { (mark : Mark) → mark.kept ≤ kept → kept_at_mark self.new mark ≡ kept_at_mark self.old mark }
+        ensures texts { (place : ℕ) →
+            kept_at self.new.texts.items place
+            ≡ kept_then (kept_at self.old.texts.items) (places_of self.old.order.items) kept place }
+        ensures levels { (mark : Mark) → mark.kept ≤ kept →
+            kept_at_mark self.new mark ≡ kept_at_mark self.old mark }
         ensures marks { self.new.marks.items ≡ self.old.marks.items }
         ensures room { KeepsRoom self.old self.new }
         ensures terms { self.new.terms ≡ self.old.terms }
@@ -152,7 +161,8 @@ impl NodeNames {
         requires room { place_of id < length self.old.texts.items }
         requires order { length self.old.texts.items ≤ vec_capacity self.old.order }
         requires unkept { text_at self.old id ≡ None }
-        ensures kept { IsKept self.old.texts.items self.new.texts.items (place_of id) (rc_str_bytes text) }
+        ensures kept { IsKept self.old.texts.items self.new.texts.items (place_of id)
+            (rc_str_bytes text) }
         ensures order { self.new.order.items ≡ self.old.order.items ++ id ∷ [] }
         ensures levels { kept_below self.new ≡ kept_below self.old }
         ensures room { KeepsRoom self.old self.new }
@@ -169,7 +179,8 @@ impl NodeNames {
         requires room { place_of id < length self.old.texts.items }
         requires order { length self.old.texts.items ≤ vec_capacity self.old.order }
         requires unkept { text_at self.old id ≡ None }
-        ensures kept { IsKept self.old.texts.items self.new.texts.items (place_of id) (rc_str_bytes name) }
+        ensures kept { IsKept self.old.texts.items self.new.texts.items (place_of id)
+            (rc_str_bytes name) }
         ensures levels { kept_below self.new ≡ kept_below self.old }
         ensures room { KeepsRoom self.old self.new }
         ensures terms { self.new.terms ≡ self.old.terms + 1 }
@@ -185,7 +196,8 @@ impl NodeNames {
         requires room { place_of id < length self.old.texts.items }
         requires order { length self.old.texts.items ≤ vec_capacity self.old.order }
         requires unkept { text_at self.old id ≡ None }
-        ensures kept { IsKept self.old.texts.items self.new.texts.items (place_of id) (rc_str_bytes name) }
+        ensures kept { IsKept self.old.texts.items self.new.texts.items (place_of id)
+            (rc_str_bytes name) }
         ensures levels { kept_below self.new ≡ kept_below self.old }
         ensures room { KeepsRoom self.old self.new }
         ensures terms { self.new.terms ≡ self.old.terms }
@@ -201,7 +213,8 @@ impl NodeNames {
         requires room { place_of id < length self.old.texts.items }
         requires order { length self.old.texts.items ≤ vec_capacity self.old.order }
         requires unkept { text_at self.old id ≡ None }
-        ensures kept { IsKept self.old.texts.items self.new.texts.items (place_of id) (rc_str_bytes name) }
+        ensures kept { IsKept self.old.texts.items self.new.texts.items (place_of id)
+            (rc_str_bytes name) }
         ensures levels { kept_below self.new ≡ kept_below self.old }
         ensures room { KeepsRoom self.old self.new }
         ensures terms { self.new.terms ≡ self.old.terms }

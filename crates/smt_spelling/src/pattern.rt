@@ -8,9 +8,10 @@ ghost use Rattle.law_scripts.specs.WrittenStrings.{part_expr, pattern_expr};
 ghost use Rattle.law_scripts.specs.Script.{group, name};
 ghost use Rattle.law_texts.specs.Reading.{Expression};
 ghost use Rattle.law_terms.specs.Faults.{EncodePatternFailed, fault_unless, is_pattern_part};
-ghost use Rattle.smt_types.specs.PatternView.{plain_ord_pattern, plain_part};
+ghost use Rattle.smt_term.specs.PatternView.{plain_ord_pattern, plain_part};
 ghost use Rattle.law_terms.specs.Plain.{Character, PatternPart};
 ghost use Rattle.std.specs.List.{list_all};
+ghost use Rattle.law_texts.specs.SharedTexts.{GivesText};
 
 use crate::error::TextError;
 use crate::spell::application_text;
@@ -20,8 +21,11 @@ use std::alloc::{AllocError, Global};
 
 /// The regular expression of a pattern, or its refusal where a character is above `SMT_LIB_MAX_CODE_POINT`.
 pub(crate) fn pattern_text(alloc: Global, pattern: &OrdPattern) -> Result<Text, TextError>
-    ensures text { IfOk result (λ text. rc_str_bytes text ≡ spelled (pattern_expr (plain_ord_pattern pattern.now))) }
-    ensures fault { Finds text_fault (fault_unless (list_all is_pattern_part (plain_ord_pattern pattern.now)) (EncodePatternFailed (plain_ord_pattern pattern.now))) result }
+    ensures text { GivesText result (spelled (pattern_expr (plain_ord_pattern pattern.now))) }
+    ensures fault { Finds text_fault
+        (fault_unless (list_all is_pattern_part (plain_ord_pattern pattern.now))
+        (EncodePatternFailed (plain_ord_pattern pattern.now)))
+        result }
 {
     match part_texts(alloc, pattern.get_elems())? {
         Some(parts) => Ok(joined_text(alloc, parts.as_slice())?),
@@ -31,8 +35,10 @@ pub(crate) fn pattern_text(alloc: Global, pattern: &OrdPattern) -> Result<Text, 
 
 /// The texts of a pattern's elements, in order. None where there is one that no string can have.
 fn part_texts(alloc: Global, elems: &[PatternElem]) -> Result<Option<Vec<Text>>, AllocError>
-    ensures text { IfOk result (λ found. IfSome found (λ texts. AreSpelled (map part_expr (map plain_part elems.now)) texts.items)) }
-    ensures some { IfOk result (λ found. is_some found ≡ list_all is_pattern_part (map plain_part elems.now)) }
+    ensures text { IfOk result (λ found.
+        IfSome found (λ texts. AreSpelled (map part_expr (map plain_part elems.now)) texts.items)) }
+    ensures some { IfOk result
+        (λ found. is_some found ≡ list_all is_pattern_part (map plain_part elems.now)) }
 {
     let mut parts = Vec::new(alloc);
     for elem in elems {
@@ -46,7 +52,8 @@ fn part_texts(alloc: Global, elems: &[PatternElem]) -> Result<Option<Vec<Text>>,
 
 /// `(re.* re.allchar)` of the wildcard, `(str.to_re "c")` of a character. None of one that no string can have.
 fn part_text(alloc: Global, elem: PatternElem) -> Result<Option<Text>, AllocError>
-    ensures text { IfOk result (λ found. IfSome found (λ text. rc_str_bytes text ≡ spelled (part_expr (plain_part elem)))) }
+    ensures text { IfOk result (λ found.
+        IfSome found (λ text. rc_str_bytes text ≡ spelled (part_expr (plain_part elem)))) }
     ensures some { IfOk result (λ found. is_some found ≡ is_pattern_part (plain_part elem)) }
 {
     match elem {
@@ -57,7 +64,8 @@ fn part_text(alloc: Global, elem: PatternElem) -> Result<Option<Text>, AllocErro
 
 /// `(str.to_re "c")`.
 fn character_text(alloc: Global, c: char) -> Result<Option<Text>, AllocError>
-    ensures text { IfOk result (λ found. IfSome found (λ text. rc_str_bytes text ≡ spelled (part_expr (Character c)))) }
+    ensures text { IfOk result
+        (λ found. IfSome found (λ text. rc_str_bytes text ≡ spelled (part_expr (Character c)))) }
     ensures some { IfOk result (λ found. is_some found ≡ is_pattern_part (Character c)) }
 {
     let mut alone = String::new(alloc);
@@ -70,14 +78,16 @@ fn character_text(alloc: Global, c: char) -> Result<Option<Text>, AllocError>
 
 /// `(str.to_re x)`.
 fn to_re_text(alloc: Global, operand: Text) -> Result<Text, AllocError>
-    ensures { (e : Expression) → rc_str_bytes operand ≡ spelled e → IfOk result (λ text. rc_str_bytes text ≡ spelled (group (name (codes "str.to_re") ∷ e ∷ []))) }
+    ensures { (e : Expression) → rc_str_bytes operand ≡ spelled e →
+        GivesText result (spelled (group (name (codes "str.to_re") ∷ e ∷ []))) }
 {
     Text::from_string(application_text(alloc, "str.to_re", &[operand])?)
 }
 
 /// The regular expression of some parts by their texts: of none the empty text, of one that one alone.
 fn joined_text(alloc: Global, parts: &[Text]) -> Result<Text, AllocError>
-    ensures { (ps : List PatternPart) → AreSpelled (map part_expr ps) parts.now → IfOk result (λ text. rc_str_bytes text ≡ spelled (pattern_expr ps)) }
+    ensures { (ps : List PatternPart) → AreSpelled (map part_expr ps) parts.now →
+        GivesText result (spelled (pattern_expr ps)) }
 {
     match parts {
         [] => Text::from_str(alloc, "(str.to_re \"\")"),

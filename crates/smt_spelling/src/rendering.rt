@@ -4,11 +4,13 @@
 ghost use Rattle.std.specs.Prelude.{◌≡◌, ◌∷◌, List, IfOk, Some, map, option_map};
 ghost use Rattle.smt_bits.specs.Width.{bits_in};
 ghost use Rattle.smt_spelling.specs.Renderings.{plain_rendering, written_ids};
-ghost use Rattle.smt_spelling.specs.NodeEntries.{is_call_label, is_negation_label, is_truth_type, rendering_in, second_last, width_of_type, written_parts, Rendered};
+ghost use Rattle.smt_spelling.specs.NodeEntries.{is_call_label, is_negation_label, is_truth_type};
+ghost use Rattle.smt_spelling.specs.NodeEntries.{rendering_in, second_last, width_of_type};
+ghost use Rattle.smt_spelling.specs.NodeEntries.{written_parts, Rendered};
 ghost use Rattle.smt_spelling.specs.NodeTexts.{IsNodeOf};
 ghost use Rattle.law_terms.specs.Meanings.{all_found, meanings};
 ghost use Rattle.law_terms.specs.Nodes.{Meaning, TermMeaning, TypeMeaning};
-ghost use Rattle.smt_nodes.specs.Interned.{meaning_in, nodes_of};
+ghost use Rattle.smt_nodes.specs.Interned.{IsNumber, meaning_in, nodes_of};
 ghost use Rattle.smt_nodes.specs.View.{places_of, plain_label};
 ghost use Rattle.law_lines.specs.Lines as lines;
 ghost use Rattle.law_terms.specs.Plain.{PlainTerm, PlainType, terms};
@@ -37,7 +39,8 @@ pub enum Rendering {
 /// The overflow of a negation is written without its operator: it overflows exactly at the least number of its width,
 /// and what is no bitvector does not overflow.
 pub fn rendering_of(nodes: &Interner, node: &Node) -> Rendering
-    ensures { (id : NodeId) (m : Meaning) → meaning_in nodes.now id ≡ Some m → IsNodeOf nodes.now id node.now → plain_rendering result ≡ rendering_in m }
+    ensures { (id : NodeId) (m : Meaning) → meaning_in nodes.now id ≡ Some m →
+        IsNodeOf nodes.now id node.now → plain_rendering result ≡ rendering_in m }
 {
     if is_negation_test(&node.label) {
         negation_rendering(nodes, node.parts.items())
@@ -64,7 +67,10 @@ fn is_call(label: &Label) -> bool
 
 /// How the overflow of a negation is written, by its type and its operands: it is a test of one operand.
 fn negation_rendering(nodes: &Interner, parts: &[NodeId]) -> Rendering
-    ensures { (type : PlainType) (ts : List PlainTerm) → all_found (meanings (nodes_of nodes.now)) (places_of parts.now) ≡ Some (TypeMeaning type ∷ map TermMeaning ts) → plain_rendering result ≡ Rendered (lines.negation_rendering (terms ts) type) }
+    ensures { (type : PlainType) (ts : List PlainTerm) →
+        all_found (meanings (nodes_of nodes.now)) (places_of parts.now) ≡ Some
+        (TypeMeaning type ∷ map TermMeaning ts) →
+        plain_rendering result ≡ Rendered (lines.negation_rendering (terms ts) type) }
 {
     if parts.len() != 2 {
         return Rendering::Application;
@@ -78,14 +84,16 @@ fn negation_rendering(nodes: &Interner, parts: &[NodeId]) -> Rendering
 
 /// Whether a type is that of truth values.
 fn is_truth(nodes: &Interner, ty: NodeId) -> bool
-    ensures { (t : PlainType) → meaning_in nodes.now ty ≡ Some (TypeMeaning t) → result ≡ is_truth_type t }
+    ensures { (t : PlainType) → meaning_in nodes.now ty ≡ Some (TypeMeaning t) →
+        result ≡ is_truth_type t }
 {
     matches!(nodes.label(ty), Some(Label::TBool))
 }
 
 /// The width of a type of bitvectors, None of another type.
 fn width_in(nodes: &Interner, ty: NodeId) -> Option<Width>
-    ensures { (t : PlainType) → meaning_in nodes.now ty ≡ Some (TypeMeaning t) → option_map bits_in result ≡ width_of_type t }
+    ensures { (t : PlainType) → meaning_in nodes.now ty ≡ Some (TypeMeaning t) →
+        option_map bits_in result ≡ width_of_type t }
 {
     match nodes.label(ty)? {
         Label::TBitvec(width) => Some(*width),
@@ -95,7 +103,8 @@ fn width_in(nodes: &Interner, ty: NodeId) -> Option<Width>
 
 /// How the overflow of this operand's negation is written.
 fn least_rendering(nodes: &Interner, operand: NodeId) -> Rendering
-    ensures { (t : PlainTerm) → meaning_in nodes.now operand ≡ Some (TermMeaning t) → plain_rendering result ≡ Rendered (lines.least_rendering (type_of t)) }
+    ensures { (t : PlainTerm) → IsNumber nodes.now operand t →
+        plain_rendering result ≡ Rendered (lines.least_rendering (type_of t)) }
 {
     let parts = nodes.parts(operand);
     if parts.is_empty() {
@@ -152,7 +161,8 @@ impl Rendering {
     ///
     /// Only that there is no memory.
     pub fn written(self, alloc: Global, parts: &[NodeId]) -> Result<WrittenParts<'_>, AllocError>
-        ensures { IfOk result (λ written. written_ids written ≡ written_parts (plain_rendering self) parts.now) }
+        ensures { IfOk result
+            (λ written. written_ids written ≡ written_parts (plain_rendering self) parts.now) }
     {
         Ok(match self {
             Rendering::Application | Rendering::EqualsIntMin(_) => WrittenParts::Given(parts),

@@ -1,7 +1,8 @@
 // The selectors with which attributes of records are taken.
 #![tactic(auto, using(smt_term::specs::View::views))]
 
-ghost use Rattle.std.specs.Prelude.{◌≡◌, ◌<◌, ◌≤◌, ◌+◌, ◌∷◌, [], List, IfOk, IfSome, IsTrue, None, Some, is_some, map, option_map};
+ghost use Rattle.std.specs.Prelude.{◌≡◌, ◌<◌, ◌≤◌, ◌+◌, ◌∷◌, [], List, IfOk, IfSome, IsTrue, None};
+ghost use Rattle.std.specs.Prelude.{Some, is_some, map, option_map};
 ghost use Rattle.std.specs.Rc.{rc_str_bytes};
 ghost use Rattle.smt_spelling.specs.NodeEntries.{head_in, selection_fault, selector};
 ghost use Rattle.smt_spelling.specs.LookUps.{selections};
@@ -19,10 +20,11 @@ ghost use Rattle.law_lines.specs.Spelling.{spelled};
 ghost use Rattle.law_terms.specs.Faults.{record_get_fault};
 ghost use Rattle.law_terms.specs.Plain.{PlainTerm, PlainType, terms};
 ghost use Rattle.law_terms.specs.Types.{types_of};
-ghost use Rattle.smt_nodes.specs.Interned.{meaning_in, nodes_of, IsMeant};
+ghost use Rattle.smt_nodes.specs.Interned.{IsMeant, IsNumber, meaning_in, nodes_of};
 ghost use Rattle.smt_nodes.specs.View.{places_of, plain_label};
 ghost use Rattle.smt_spelling.specs.TextFaults.{Finds};
 ghost use Rattle.smt_term.specs.View.{plain_type};
+ghost use Rattle.law_texts.specs.SharedTexts.{GivesText};
 
 use crate::names::Names;
 use crate::record::{attribute_name, attribute_place};
@@ -35,7 +37,8 @@ use std::sync::ledger::{Blank, Ledger};
 
 /// The attribute that a node takes, None where it takes none.
 fn selected_by(label: &Label) -> Option<&Attr>
-    ensures { option_map (λ a. rc_str_bytes a.now) result ≡ stated.selected_by (plain_label label.now) }
+    ensures { option_map (λ a. rc_str_bytes a.now) result
+        ≡ stated.selected_by (plain_label label.now) }
 {
     match label {
         Label::App(Op::RecordGet(attribute)) => Some(attribute),
@@ -58,10 +61,15 @@ impl Names<'_> {
         node: &Node,
         steps: &mut Steps<L>,
     ) -> Result<Option<Text>, SelectorError>
-        requires meant { (id : NodeId) × IsNodeOf (nodes_under self.now) id node.now × IsMeant (nodes_under self.now) id }
-        ensures head { (id : NodeId) (t : PlainTerm) (s : Tables) → IsNodeOf (nodes_under self.now) id node.now → meaning_in (nodes_under self.now) id ≡ Some (TermMeaning t) → AreTables self.now s →
+        requires meant { (id : NodeId) × IsNodeOf (nodes_under self.now) id node.now
+            × IsMeant (nodes_under self.now) id }
+        ensures head { (id : NodeId) (t : PlainTerm) (s : Tables) →
+            IsNodeOf (nodes_under self.now) id node.now → IsNumber (nodes_under self.now) id t →
+            AreTables self.now s →
             IfOk result (λ found. IsHead (plain_label node.now.label) found (head_in t s)) }
-        ensures fault { (id : NodeId) (m : Meaning) → IsNodeOf (nodes_under self.now) id node.now → meaning_in (nodes_under self.now) id ≡ Some m → Finds selector_fault (selection_fault m) result }
+        ensures fault { (id : NodeId) (m : Meaning) → IsNodeOf (nodes_under self.now) id node.now →
+            meaning_in (nodes_under self.now) id ≡ Some m →
+            Finds selector_fault (selection_fault m) result }
         ensures steps { steps.new ≤ steps.old + selections (plain_label node.now.label) }
     {
         let Some(attribute) = selected_by(&node.label) else {
@@ -78,11 +86,19 @@ impl Names<'_> {
         parts: &[NodeId],
         steps: &mut Steps<L>,
     ) -> Result<Text, SelectorError>
-        requires meant { (type : PlainType) × (ts : List PlainTerm) × (all_found (meanings (nodes_of (nodes_under self.now))) (places_of parts.now) ≡ Some (TypeMeaning type ∷ map TermMeaning ts)) }
-        ensures text { (type : PlainType) (ts : List PlainTerm) (s : Tables) → all_found (meanings (nodes_of (nodes_under self.now))) (places_of parts.now) ≡ Some (TypeMeaning type ∷ map TermMeaning ts) → AreTables self.now s →
-            IfOk result (λ text. rc_str_bytes text ≡ spelled (selector (rc_str_bytes attribute.now) (first_type (terms ts)) s)) }
-        ensures fault { (type : PlainType) (ts : List PlainTerm) → all_found (meanings (nodes_of (nodes_under self.now))) (places_of parts.now) ≡ Some (TypeMeaning type ∷ map TermMeaning ts) →
-            Finds selector_fault (record_get_fault (rc_str_bytes attribute.now) (types_of (terms ts))) result }
+        requires meant { (type : PlainType) × (ts : List PlainTerm)
+            × (all_found (meanings (nodes_of (nodes_under self.now))) (places_of parts.now)
+            ≡ Some (TypeMeaning type ∷ map TermMeaning ts)) }
+        ensures text { (type : PlainType) (ts : List PlainTerm) (s : Tables) →
+            all_found (meanings (nodes_of (nodes_under self.now))) (places_of parts.now) ≡ Some
+            (TypeMeaning type ∷ map TermMeaning ts) → AreTables self.now s →
+            GivesText result
+            (spelled (selector (rc_str_bytes attribute.now) (first_type (terms ts)) s)) }
+        ensures fault { (type : PlainType) (ts : List PlainTerm) →
+            all_found (meanings (nodes_of (nodes_under self.now))) (places_of parts.now) ≡ Some
+            (TypeMeaning type ∷ map TermMeaning ts) →
+            Finds selector_fault
+            (record_get_fault (rc_str_bytes attribute.now) (types_of (terms ts))) result }
         ensures steps { steps.new ≤ steps.old + 1 }
     {
         let Some(operand) = parts.get(1) else {
@@ -103,8 +119,12 @@ impl Names<'_> {
         steps: &mut Steps<L>,
     ) -> Result<Text, SelectorError>
         requires { (t : PlainType) × (meaning_in (nodes_under self.now) ty ≡ Some (TypeMeaning t)) }
-        ensures text { (t : PlainType) (s : Tables) → meaning_in (nodes_under self.now) ty ≡ Some (TypeMeaning t) → AreTables self.now s → IfOk result (λ text. rc_str_bytes text ≡ spelled (selector (rc_str_bytes attribute.now) t s)) }
-        ensures fault { (t : PlainType) → meaning_in (nodes_under self.now) ty ≡ Some (TypeMeaning t) → Finds selector_fault (record_get_fault (rc_str_bytes attribute.now) (t ∷ [])) result }
+        ensures text { (t : PlainType) (s : Tables) →
+            meaning_in (nodes_under self.now) ty ≡ Some (TypeMeaning t) → AreTables self.now s →
+            GivesText result (spelled (selector (rc_str_bytes attribute.now) t s)) }
+        ensures fault { (t : PlainType) →
+            meaning_in (nodes_under self.now) ty ≡ Some (TypeMeaning t) →
+            Finds selector_fault (record_get_fault (rc_str_bytes attribute.now) (t ∷ [])) result }
         ensures steps { steps.new ≤ steps.old + 1 }
     {
         match self.nodes().label(ty) {
@@ -133,8 +153,10 @@ impl Names<'_> {
         place: usize,
         steps: &mut Steps<L>,
     ) -> Result<Text, SelectorError>
-        ensures text { (t : PlainType) (s : Tables) → meaning_in (nodes_under self.now) ty ≡ Some (TypeMeaning t) → IsTrue (has_entry (TypeMeaning t)) → AreTables self.now s →
-            IfOk result (λ text. rc_str_bytes text ≡ attribute_name (text_of_name (name_of_type s t)) place) }
+        ensures text { (t : PlainType) (s : Tables) →
+            meaning_in (nodes_under self.now) ty ≡ Some (TypeMeaning t) →
+            IsTrue (has_entry (TypeMeaning t)) → AreTables self.now s →
+            GivesText result (attribute_name (text_of_name (name_of_type s t)) place) }
         ensures fault { Finds selector_fault None result }
         ensures steps { steps.new ≡ steps.old + 1 }
     {
@@ -162,8 +184,12 @@ impl Names<'_> {
         requires name { blank.name ≡ L.name }
         requires parts { blank.parts ≡ L.parts }
         requires some { 0 < blank.parts }
-        ensures text { (s : Tables) → AreTables self.now s → IfOk result (λ text. rc_str_bytes text ≡ spelled (selector (rc_str_bytes attribute.now) (plain_type ty.now) s)) }
-        ensures fault { (s : Tables) → AreTables self.now s → Finds selector_fault (fault_of_selection s (rc_str_bytes attribute.now) (plain_type ty.now)) result }
+        ensures text { (s : Tables) → AreTables self.now s →
+            GivesText result
+            (spelled (selector (rc_str_bytes attribute.now) (plain_type ty.now) s)) }
+        ensures fault { (s : Tables) → AreTables self.now s →
+            Finds selector_fault
+            (fault_of_selection s (rc_str_bytes attribute.now) (plain_type ty.now)) result }
     {
         let mut steps = Steps::<L>::new(blank);
         match self.written_type(ty, &mut steps) {
@@ -178,8 +204,11 @@ impl Names<'_> {
     /// The number of a type that has a text, None where it has none. It compares the type with one node after the other, and
     /// is one look-up at most.
     fn written_type<L: Ledger>(&self, ty: &TermType, steps: &mut Steps<L>) -> Option<NodeId>
-        ensures meant { IfSome result (λ id. meaning_in (nodes_under self.now) id ≡ Some (TypeMeaning (plain_type ty.now))) }
-        ensures named { (s : Tables) → AreTables self.now s → IsTrue (has_entry (TypeMeaning (plain_type ty.now))) → is_some result ≡ is_some (name_of_type s (plain_type ty.now)) }
+        ensures meant { IfSome result
+            (λ id. meaning_in (nodes_under self.now) id ≡ Some (TypeMeaning (plain_type ty.now))) }
+        ensures named { (s : Tables) → AreTables self.now s →
+            IsTrue (has_entry (TypeMeaning (plain_type ty.now))) →
+            is_some result ≡ is_some (name_of_type s (plain_type ty.now)) }
     {
         let id = self.nodes().find_subject(Subject::Type(ty))?;
         match self.text(id, steps) {

@@ -31,7 +31,8 @@ abbrev pub sink_refusal : SinkError → Refusal
 sink_refusal SinkFault = Sink
 sink_refusal SinkWant = Memory
 
--- Why a run was refused: the words are no command, or the source failed, or the sink, each as its count of faults tells. Want of memory is free.
+-- Why a run was refused: the words are no command, or the source failed, or the sink, each as its count of faults tells. Want of memory is
+-- free.
 abbrev pub HasCause : (words source_failed sink_failed : Type 0) → Refusal → Type 0
 HasCause words source_failed sink_failed Usage = words
 HasCause words source_failed sink_failed Source = source_failed
@@ -64,7 +65,8 @@ pub record Converses (left left_behind before after : Option (List ℕ)) (status
 
 -- The status is that of a refusal that has its cause, and its line was said.
 abbrev pub IsRefused : (words source_failed sink_failed : Type 0) → (Said : List ℕ → Type 0) → (status : ℕ) → Type 0
-IsRefused words source_failed sink_failed Said status = (refusal : Refusal) × (status ≡ status_of refusal) × HasCause words source_failed sink_failed refusal × Said (line_of refusal)
+IsRefused words source_failed sink_failed Said status =
+    (refusal : Refusal) × (status ≡ status_of refusal) × HasCause words source_failed sink_failed refusal × Said (line_of refusal)
 
 -- ---- what a run does
 

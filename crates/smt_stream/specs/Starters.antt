@@ -15,7 +15,8 @@ links_back s = s.returned.items
 
 -- What it tells of itself: all. No start of it fails.
 abbrev pub mini_starter_state : MiniStarter → StarterState MiniLink
-mini_starter_state s = record { commands = Some (mini_commands s); returned = Some (links_back s); failed_starts = 0; link_faults = s.link_faults }
+mini_starter_state s =
+    record { commands = Some (mini_commands s); returned = Some (links_back s); failed_starts = 0; link_faults = s.link_faults }
 
 -- A line may follow on its links where it is the next of what is put for the bytes that were sent.
 abbrev pub mini_starter_allows : MiniStarter → List ℕ → List ℕ → List ℕ → Type 0

@@ -43,8 +43,11 @@ impl Drop for MiniLink {
 
 /// Appends bytes to each of two lists, or nothing to either where there is no memory. Answers whether it did.
 fn append_both(first: &mut Vec<u8>, more: &[u8], second: &mut Vec<u8>, others: &[u8]) -> bool
-    ensures done { IsTrue result → (first.new.items ≡ first.old.items ++ more.now) × (second.new.items ≡ second.old.items ++ others.now) }
-    ensures undone { result ≡ false → (first.new.items ≡ first.old.items) × (second.new.items ≡ second.old.items) }
+    ensures done { IsTrue result →
+        (first.new.items ≡ first.old.items ++ more.now)
+        × (second.new.items ≡ second.old.items ++ others.now) }
+    ensures undone { result ≡ false →
+        (first.new.items ≡ first.old.items) × (second.new.items ≡ second.old.items) }
 {
     let count = first.len();
     if first.extend_from_slice(more).is_err() {
@@ -58,13 +61,23 @@ fn append_both(first: &mut Vec<u8>, more: &[u8], second: &mut Vec<u8>, others: &
 }
 
 impl MiniLink {
-    ghost use Rattle.std.specs.Prelude.{◌≡◌, [], drop, OnOk, OnErr, IsErrOf, IfOk, IsOkUnless, ◌<◌, ◌↔◌, Some, true};
+    ghost use Rattle.std.specs.Prelude.{◌≡◌, [], drop, OnOk, OnErr, IsErrOf, IfOk, IsOkUnless, ◌<◌};
+    ghost use Rattle.std.specs.Prelude.{◌↔◌, Some, true};
     ghost use Rattle.smt_stream.specs.Led.{IsAnswers};
-    ghost use Rattle.smt_stream.specs.Links.{IsBroken, SendsMore, mini_answers, mini_broken, mini_end, mini_sent, mini_state};
+    ghost use Rattle.smt_stream.specs.Links.{IsBroken, SendsMore, mini_answers, mini_broken};
+    ghost use Rattle.smt_stream.specs.Links.{mini_end, mini_sent, mini_state};
 
     /// A link to a solver that was sent nothing. Takes no memory.
     pub fn new(alloc: Global) -> MiniLink
-        ensures state { mini_state result ≡ record { sent = Some []; was_read = Some []; to_come = Some []; ended = Some Ended.Running; killed = Some false; faults = 0 } }
+        ensures state { mini_state result
+            ≡ record {
+              sent = Some [];
+              was_read = Some [];
+              to_come = Some [];
+              ended = Some Ended.Running;
+              killed = Some false;
+              faults = 0;
+            } }
         ensures whole { mini_broken result ≡ false }
     {
         MiniLink {
@@ -148,7 +161,8 @@ impl MiniLink {
 impl Link for MiniLink {
     ghost use Rattle.std.specs.Prelude.{◌≡◌};
     ghost use Rattle.smt_script.specs.Bytes.{bytes_in};
-    ghost use Rattle.smt_solve.specs.Link.{AllowsTheSame, AsksEnd, HandsOn, Kills, ReadsLine, Sends};
+    ghost use Rattle.smt_solve.specs.Link.{AllowsTheSame, AsksEnd, HandsOn, Kills, ReadsLine};
+    ghost use Rattle.smt_solve.specs.Link.{Sends};
     ghost use Rattle.smt_stream.specs.Links.{NeverFails, SendsAsTold, mini_allows, mini_state};
 
     ghost state = { mini_state };
@@ -185,7 +199,8 @@ impl Link for MiniLink {
 
     /// Gives the next line of the answers, or nothing where there is no memory for it.
     fn read_line(&mut self, line: &mut Bytes, limit: usize) -> Result<LineEnd, LinkError>
-        ensures reads { ReadsLine (mini_allows self.old) (mini_state self.old) (mini_state self.new) (bytes_in line.old) (bytes_in line.new) limit result }
+        ensures reads { ReadsLine (mini_allows self.old) (mini_state self.old) (mini_state self.new)
+            (bytes_in line.old) (bytes_in line.new) limit result }
         ensures allows { AllowsTheSame (mini_allows self.old) (mini_allows self.new) }
         ensures told { NeverFails self.old self.new result }
     {

@@ -15,7 +15,8 @@ use smt_text::Text;
 
 /// Puts a line, with its line feed.
 fn put_line<W: Sink>(text: &Text, out: &mut W) -> Result<(), Refusal>
-    ensures done { OnOk result (W.contents out.new ≡ append_known (W.contents out.old) (rc_str_bytes text.now ++ 10 ∷ [])) }
+    ensures done { OnOk result (W.contents out.new
+        ≡ append_known (W.contents out.old) (rc_str_bytes text.now ++ 10 ∷ [])) }
     ensures same { OnOk result (W.faults out.new ≡ W.faults out.old) }
     ensures cause { IfErr result (HasCause ⊥ ⊥ (Rose (W.faults out.old) (W.faults out.new))) }
 {
@@ -26,7 +27,8 @@ fn put_line<W: Sink>(text: &Text, out: &mut W) -> Result<(), Refusal>
 
 /// Puts what is heard at a byte.
 fn put_heard<W: Sink>(heard: Heard, out: &mut W) -> Result<(), Refusal>
-    ensures done { OnOk result (W.contents out.new ≡ append_known (W.contents out.old) (heard_text heard)) }
+    ensures done { OnOk result
+        (W.contents out.new ≡ append_known (W.contents out.old) (heard_text heard)) }
     ensures same { OnOk result (W.faults out.new ≡ W.faults out.old) }
     ensures cause { IfErr result (HasCause ⊥ ⊥ (Rose (W.faults out.old) (W.faults out.new))) }
 {
@@ -40,7 +42,10 @@ fn put_heard<W: Sink>(heard: Heard, out: &mut W) -> Result<(), Refusal>
 
 /// Takes a byte, and puts what is put for it.
 fn take_byte<W: Sink>(stream: &mut Stream, byte: u8, out: &mut W) -> Result<(), Refusal>
-    ensures done { (first : Standing) → IsAt stream.old first → OnOk result ((last : Standing) × Says first (byte ∷ []) (W.contents out.old) (W.contents out.new) last × IsAt stream.new last) }
+    ensures done { (first : Standing) → IsAt stream.old first →
+        OnOk result ((last : Standing)
+        × Says first (byte ∷ []) (W.contents out.old) (W.contents out.new) last
+        × IsAt stream.new last) }
     ensures same { OnOk result (W.faults out.new ≡ W.faults out.old) }
     ensures cause { IfErr result (HasCause ⊥ ⊥ (Rose (W.faults out.old) (W.faults out.new))) }
 {
@@ -52,7 +57,10 @@ fn take_byte<W: Sink>(stream: &mut Stream, byte: u8, out: &mut W) -> Result<(), 
 
 /// Takes bytes, and puts what is put for each.
 pub fn take_piece<W: Sink>(stream: &mut Stream, piece: &[u8], out: &mut W) -> Result<(), Refusal>
-    ensures done { (first : Standing) → IsAt stream.old first → OnOk result ((last : Standing) × Says first piece.now (W.contents out.old) (W.contents out.new) last × IsAt stream.new last) }
+    ensures done { (first : Standing) → IsAt stream.old first →
+        OnOk result ((last : Standing)
+        × Says first piece.now (W.contents out.old) (W.contents out.new) last
+        × IsAt stream.new last) }
     ensures same { OnOk result (W.faults out.new ≡ W.faults out.old) }
     ensures cause { IfErr result (HasCause ⊥ ⊥ (Rose (W.faults out.old) (W.faults out.new))) }
 {
@@ -70,7 +78,10 @@ pub fn take_and_flush<W: Sink>(
     piece: &[u8],
     out: &mut W,
 ) -> Result<(), Refusal>
-    ensures done { (first : Standing) → IsAt stream.old first → OnOk result ((last : Standing) × Says first piece.now (W.contents out.old) (W.contents out.new) last × IsAt stream.new last) }
+    ensures done { (first : Standing) → IsAt stream.old first →
+        OnOk result ((last : Standing)
+        × Says first piece.now (W.contents out.old) (W.contents out.new) last
+        × IsAt stream.new last) }
     ensures same { OnOk result (W.faults out.new ≡ W.faults out.old) }
     ensures cause { IfErr result (HasCause ⊥ ⊥ (Rose (W.faults out.old) (W.faults out.new))) }
 {

@@ -27,9 +27,11 @@ fn converse<R: Source, W: Sink>(
     source: &mut R,
     out: &mut W,
 ) -> Result<Stream, Refusal>
-    ensures led { IfOk result (IsLed (R.remaining source.old) (R.remaining source.new) (W.contents out.old) (W.contents out.new)) }
+    ensures led { IfOk result (IsLed (R.remaining source.old) (R.remaining source.new)
+        (W.contents out.old) (W.contents out.new)) }
     ensures same { OnOk result (W.faults out.new ≡ W.faults out.old) }
-    ensures cause { IfErr result (HasCause ⊥ (Rose (R.faults source.old) (R.faults source.new)) (Rose (W.faults out.old) (W.faults out.new))) }
+    ensures cause { IfErr result (HasCause ⊥ (Rose (R.faults source.old) (R.faults source.new))
+        (Rose (W.faults out.old) (W.faults out.new))) }
 {
     let mut buffer = Vec::from_elem(alloc, 0u8, PIECE)?;
     let piece = buffer.as_mut_slice();
@@ -52,7 +54,10 @@ fn converse<R: Source, W: Sink>(
 
 /// Puts what is put at the end of a stream, and answers the status of the run.
 fn finish<W: Sink>(stream: &Stream, out: &mut W) -> Result<u8, Refusal>
-    ensures done { (last : Standing) → IsAt stream.now last → IfOk result (λ status. (status ≡ status_at last) × (W.contents out.new ≡ append_known (W.contents out.old) (put_at_end last))) }
+    ensures done { (last : Standing) → IsAt stream.now last →
+        IfOk result (λ status.
+        (status ≡ status_at last)
+        × (W.contents out.new ≡ append_known (W.contents out.old) (put_at_end last))) }
     ensures cause { IfErr result (HasCause ⊥ ⊥ (Rose (W.faults out.old) (W.faults out.new))) }
 {
     match stream.stage {
@@ -69,7 +74,8 @@ fn finish<W: Sink>(stream: &Stream, out: &mut W) -> Result<u8, Refusal>
 
 /// Puts a text, and flushes it.
 fn put_text<W: Sink>(text: &str, out: &mut W) -> Result<u8, Refusal>
-    ensures done { IfOk result (λ status. (W.contents out.new ≡ append_known (W.contents out.old) text.now) × (status ≡ 0)) }
+    ensures done { IfOk result (λ status.
+        (W.contents out.new ≡ append_known (W.contents out.old) text.now) × (status ≡ 0)) }
     ensures cause { IfErr result (HasCause ⊥ ⊥ (Rose (W.faults out.old) (W.faults out.new))) }
 {
     out.put(text.as_bytes())?;
@@ -84,10 +90,14 @@ fn answer<R: Source, W: Sink>(
     source: &mut R,
     out: &mut W,
 ) -> Result<u8, Refusal>
-    ensures done { IfOk result (IsDone (R.remaining source.old) (R.remaining source.new) (W.contents out.old) (W.contents out.new) (commanded (texts words.now))) }
+    ensures done { IfOk result (IsDone (R.remaining source.old) (R.remaining source.new)
+        (W.contents out.old) (W.contents out.new) (commanded (texts words.now))) }
     ensures unread { commanded (texts words.now) ≢ Some Command.Solve → source.new ≡ source.old }
-    ensures usage { commanded (texts words.now) ≡ None → (result ≡ Err Refusal.Usage) × (out.new ≡ out.old) }
-    ensures cause { IfErr result (HasCause (commanded (texts words.now) ≡ None) (Rose (R.faults source.old) (R.faults source.new)) (Rose (W.faults out.old) (W.faults out.new))) }
+    ensures usage { commanded (texts words.now) ≡ None →
+        (result ≡ Err Refusal.Usage) × (out.new ≡ out.old) }
+    ensures cause { IfErr result (HasCause (commanded (texts words.now) ≡ None)
+        (Rose (R.faults source.old) (R.faults source.new))
+        (Rose (W.faults out.old) (W.faults out.new))) }
 {
     match command_of(words) {
         Some(Command::Solve) => {
@@ -129,7 +139,14 @@ pub fn mini_run<R: Source, W: Sink, D: Sink>(
     out: &mut W,
     diag: &mut D,
 ) -> u8
-    ensures ran { (IsDone (R.remaining source.old) (R.remaining source.new) (W.contents out.old) (W.contents out.new) (commanded (texts words.now)) result × (diag.new ≡ diag.old)) ⊎ IsRefused (commanded (texts words.now) ≡ None) (Rose (R.faults source.old) (R.faults source.new)) (Rose (W.faults out.old) (W.faults out.new)) (λ line. (put : Result (Unit {0}) SinkError) × Puts D.contents D.faults D.has_room D.place diag.old diag.new line put) result }
+    ensures ran { (IsDone (R.remaining source.old) (R.remaining source.new) (W.contents out.old)
+        (W.contents out.new) (commanded (texts words.now)) result × (diag.new ≡ diag.old))
+        ⊎ IsRefused (commanded (texts words.now) ≡ None)
+        (Rose (R.faults source.old) (R.faults source.new))
+        (Rose (W.faults out.old) (W.faults out.new)) (λ line.
+        (put : Result (Unit {0}) SinkError)
+        × Puts D.contents D.faults D.has_room D.place diag.old diag.new line put)
+        result }
     ensures usage { commanded (texts words.now) ≡ None → (result ≡ 2) × (out.new ≡ out.old) }
     ensures unread { commanded (texts words.now) ≢ Some Command.Solve → source.new ≡ source.old }
 {

@@ -119,7 +119,8 @@ impl Scanner {
 
     /// Where it stands behind a byte that is neither in a string nor in a comment.
     fn taken_between(self, byte: u8) -> Scanner
-        requires { streams.is_too_deep (record { depth = self.depth; place = scan.Between }) byte ≡ false }
+        requires { streams.is_too_deep (record { depth = self.depth; place = scan.Between }) byte
+            ≡ false }
         ensures { plain_scan result ≡ scan.scanned_at self.depth scan.Between byte }
     {
         match byte {

@@ -3,7 +3,8 @@ ghost use Rattle.std.specs.Prelude.{◌≡◌, [], map, IfOk, IsOkUnless};
 ghost use Rattle.smt_solve.specs.Link.{AllowsOnly, AllowsTheSame, IsUnused};
 ghost use Rattle.smt_solve.specs.Starter.{Finishes, Starts, command_of};
 ghost use Rattle.smt_stream.specs.Links.{mini_allows, mini_state};
-ghost use Rattle.smt_stream.specs.Starters.{links_back, mini_commands, mini_starter_allows, mini_starter_state};
+ghost use Rattle.smt_stream.specs.Starters.{links_back, mini_commands, mini_starter_allows};
+ghost use Rattle.smt_stream.specs.Starters.{mini_starter_state};
 
 use crate::link::MiniLink;
 use smt_solve::{SolverCommand, StartError, Starter};
@@ -32,7 +33,9 @@ impl Drop for MiniStarter {
 impl MiniStarter {
     /// A starter that was asked for nothing. Takes no memory.
     pub fn new(alloc: Global) -> MiniStarter
-        ensures { mini_starter_state result ≡ record { commands = Some []; returned = Some []; failed_starts = 0; link_faults = 0 } }
+        ensures { mini_starter_state result
+            ≡ record
+            { commands = Some []; returned = Some []; failed_starts = 0; link_faults = 0 } }
     {
         MiniStarter {
             commands: Vec::new(alloc),
@@ -65,10 +68,13 @@ impl Starter for MiniStarter {
 
     /// Gives a link to a new small solver. Its only error is `Memory`.
     fn start(&mut self, alloc: Global, cmd: &SolverCommand) -> Result<MiniLink, StartError>
-        ensures starts { Starts (mini_starter_state self.old) (mini_starter_state self.new) (command_of cmd.now) result }
+        ensures starts { Starts (mini_starter_state self.old) (mini_starter_state self.new)
+            (command_of cmd.now) result }
         ensures unused { IfOk result (λ link. IsUnused (mini_state link)) }
-        ensures honest { IfOk result (λ link. AllowsOnly (mini_allows link) (mini_starter_allows self.old)) }
-        ensures allows { AllowsTheSame (mini_starter_allows self.old) (mini_starter_allows self.new) }
+        ensures honest { IfOk result
+            (λ link. AllowsOnly (mini_allows link) (mini_starter_allows self.old)) }
+        ensures allows { AllowsTheSame (mini_starter_allows self.old)
+            (mini_starter_allows self.new) }
         ensures refusal { IsOkUnless result StartError.Memory }
     {
         let Ok(cmd) = SolverCommand::new(alloc, cmd.program.as_str(), cmd.args.items()) else {
@@ -82,8 +88,10 @@ impl Starter for MiniStarter {
 
     /// Keeps the link.
     fn finish(&mut self, link: MiniLink) -> Result<(), StartError>
-        ensures finishes { Finishes (mini_starter_state self.old) (mini_starter_state self.new) link (mini_state link).faults result }
-        ensures allows { AllowsTheSame (mini_starter_allows self.old) (mini_starter_allows self.new) }
+        ensures finishes { Finishes (mini_starter_state self.old) (mini_starter_state self.new) link
+            (mini_state link).faults result }
+        ensures allows { AllowsTheSame (mini_starter_allows self.old)
+            (mini_starter_allows self.new) }
     {
         if link.has_failed() {
             self.link_faults = self.link_faults.saturating_add(1);

@@ -1,5 +1,6 @@
 // The stream over bytes.
-ghost use Rattle.std.specs.Prelude.{◌≡◌, IfNone, IfOk, IfSome, IsOkUnless, None, OnOk, false, option_map};
+ghost use Rattle.std.specs.Prelude.{◌≡◌, IfNone, IfOk, IfSome, IsOkUnless, None, OnOk, false};
+ghost use Rattle.std.specs.Prelude.{option_map};
 ghost use Rattle.law_texts.specs.Reading.{Expression};
 ghost use Rattle.law_texts.specs.Tokens.{IsReadWithin};
 ghost use Rattle.law_verdicts.specs.Machine.{Machine};
@@ -95,7 +96,9 @@ impl Stream {
     ///
     /// `Memory`, where there is none for the byte or the command that it ends. Then nothing is known of what follows.
     pub fn take(&mut self, byte: u8) -> Result<Heard, MiniError>
-        ensures heard { (first : Standing) → IsAt self.old first → IfOk result (λ heard. (last : Standing) × Takes first byte (heard_text heard) last × IsAt self.new last) }
+        ensures heard { (first : Standing) → IsAt self.old first →
+            IfOk result (λ heard.
+            (last : Standing) × Takes first byte (heard_text heard) last × IsAt self.new last) }
         ensures refusal { IsOkUnless result MiniError.Memory }
     {
         match self.stage {
@@ -107,7 +110,9 @@ impl Stream {
     /// What is put at a byte that is waited for.
     fn go_on(&mut self, byte: u8) -> Result<Heard, MiniError>
         requires { self.old.stage ≡ Stage.Waiting }
-        ensures heard { (first : Standing) → IsAt self.old first → IfOk result (λ heard. (last : Standing) × Takes first byte (heard_text heard) last × IsAt self.new last) }
+        ensures heard { (first : Standing) → IsAt self.old first →
+            IfOk result (λ heard.
+            (last : Standing) × Takes first byte (heard_text heard) last × IsAt self.new last) }
         ensures refusal { IsOkUnless result MiniError.Memory }
     {
         match self.breach(byte) {
@@ -123,7 +128,9 @@ impl Stream {
     fn take_in(&mut self, byte: u8) -> Result<Heard, MiniError>
         requires waiting { self.old.stage ≡ Stage.Waiting }
         requires unbroken { (m : Machine) → streams.breach (course_of self.old m) byte ≡ None }
-        ensures heard { (first : Standing) → IsAt self.old first → IfOk result (λ heard. (last : Standing) × Takes first byte (heard_text heard) last × IsAt self.new last) }
+        ensures heard { (first : Standing) → IsAt self.old first →
+            IfOk result (λ heard.
+            (last : Standing) × Takes first byte (heard_text heard) last × IsAt self.new last) }
         ensures refusal { IsOkUnless result MiniError.Memory }
     {
         let ends = self.scanner.ends_command(byte);
@@ -137,7 +144,8 @@ impl Stream {
 
     /// Why the stream stops at the next byte, if it does.
     fn breach(&self, byte: u8) -> Option<Stop>
-        ensures { (m : Machine) → option_map plain_stop result ≡ streams.breach (course_of self.now m) byte }
+        ensures { (m : Machine) →
+            option_map plain_stop result ≡ streams.breach (course_of self.now m) byte }
     {
         if self.total >= MOST_BYTES {
             Some(Stop::TooLong)
@@ -155,7 +163,8 @@ impl Stream {
     /// Takes in a byte at which the stream does not stop.
     fn keep(&mut self, byte: u8) -> Result<(), MiniError>
         requires { (m : Machine) → streams.breach (course_of self.old m) byte ≡ None }
-        ensures kept { OnOk result ((m : Machine) → course_of self.new m ≡ streams.with_byte (course_of self.old m) byte) }
+        ensures kept { OnOk result
+            ((m : Machine) → course_of self.new m ≡ streams.with_byte (course_of self.old m) byte) }
         ensures same_mini { OnOk result (self.new.mini ≡ self.old.mini) }
         ensures same_stage { OnOk result (self.new.stage ≡ self.old.stage) }
         ensures refusal { IsOkUnless result MiniError.Memory }
@@ -173,7 +182,9 @@ impl Stream {
 
     /// What is put for the command that is held whole.
     fn answer(&mut self) -> Result<Heard, MiniError>
-        ensures heard { (c : Course) → IsAt self.old (streams.Waiting c) → IfOk result (λ heard. (last : Standing) × IsAnswered c (heard_text heard) last × IsAt self.new last) }
+        ensures heard { (c : Course) → IsAt self.old (streams.Waiting c) →
+            IfOk result (λ heard.
+            (last : Standing) × IsAnswered c (heard_text heard) last × IsAt self.new last) }
         ensures refusal { IsOkUnless result MiniError.Memory }
     {
         match self.read()? {
@@ -190,8 +201,11 @@ impl Stream {
 
     /// The expression that is held, None where it is none.
     fn read(&self) -> Result<Option<SExpr>, MiniError>
-        ensures found { IfOk result (λ read. IfSome read (λ e. IsReadWithin self.now.held.items streams.most_open (plain e))) }
-        ensures none { IfOk result (λ read. IfNone read ((e : Expression) → IsReadWithin self.now.held.items streams.most_open e → ⊥)) }
+        ensures found { IfOk result (λ read.
+            IfSome read (λ e. IsReadWithin self.now.held.items streams.most_open (plain e))) }
+        ensures none { IfOk result (λ read.
+            IfNone read
+            ((e : Expression) → IsReadWithin self.now.held.items streams.most_open e → ⊥)) }
         ensures refusal { IsOkUnless result MiniError.Memory }
     {
         match parse_sexpr_within(self.alloc, self.held.as_slice(), MOST_OPEN) {
@@ -203,7 +217,8 @@ impl Stream {
 
     /// Lets go the bytes of a command before it is fed, and takes note if no script has them.
     fn prepare(&mut self)
-        ensures { (c : Course) → IsAt self.old (streams.Waiting c) → IsAt self.new (streams.Waiting (behind_command c (streams.asked c.odd c.machine))) }
+        ensures { (c : Course) → IsAt self.old (streams.Waiting c) →
+            IsAt self.new (streams.Waiting (behind_command c (streams.asked c.odd c.machine))) }
     {
         if self.odd {
             self.mini.mark_outside();
@@ -214,7 +229,9 @@ impl Stream {
 
     /// What is put for a command whose bytes were let go.
     fn feed(&mut self, command: &SExpr) -> Result<Heard, MiniError>
-        ensures heard { (c : Course) (m : Machine) → IsAt self.old (streams.Waiting (behind_command c m)) → IfOk result (λ heard. IsFed c m (plain command.now) heard self.new) }
+        ensures heard { (c : Course) (m : Machine) →
+            IsAt self.old (streams.Waiting (behind_command c m)) →
+            IfOk result (λ heard. IsFed c m (plain command.now) heard self.new) }
         ensures refusal { IsOkUnless result MiniError.Memory }
     {
         match self.mini.feed(command) {

@@ -3,14 +3,14 @@ use Rattle.std.proofs.Common.{◌≡◌, ℕ, List, [], ◌∷◌, Some, None, m
 use Rattle.std.proofs.lemmas.Cmp.{nat_list_cmp_total}
 use Rattle.std.specs.Map.{keys_of}
 use Rattle.smt_values.specs.Plain.{PlainAction}
-use Rattle.smt_types.specs.SortedPairs.{sorted_pairs}
-use Rattle.smt_types.specs.TextSets.{sorted_texts}
+use Rattle.smt_term.specs.SortedPairs.{sorted_pairs}
+use Rattle.smt_term.specs.TextSets.{sorted_texts}
 use Rattle.law_terms.proofs.Sorted.{ascends-sorted}
 use Rattle.law_terms.specs.Plain.{PlainType, PlainTerm}
 use Rattle.law_terms.specs.ValueOrder.{ascends, text_cmp}
 use Rattle.law_cedar.specs.Symbolized.{action_data, action_ids, action_types, actions_of, no_attributes_table}
 use Rattle.smt_symbolizer.specs.Stored.{action_table, data_of_actions}
-use Rattle.smt_values.proofs.Ascending.{pairs_in_order}
+use Rattle.smt_term.proofs.InOrder.{pairs_in_order}
 
 keyed : {X : Type 0} (f : List ℕ → X) (ks : List (List ℕ)) → keys_of (map (λ k. (k, f k)) ks) ≡ ks
 keyed f [] = refl

@@ -6,9 +6,9 @@ use Rattle.std.specs.Bool.{OnFalse, OnTrue}
 use Rattle.std.specs.Map.{update}
 use Rattle.std.specs.Option.{option_or}
 use Rattle.std.specs.Prelude.{bytes_eq}
-use Rattle.smt_types.specs.TextSets.{texts_of}
-use Rattle.smt_types.specs.declared.entity.EntityType.{EntityType}
-use Rattle.smt_types.specs.declared.texts.TextSet.{TextSet}
+use Rattle.smt_term.specs.TextSets.{texts_of}
+use Rattle.smt_term.specs.declared.entity.EntityType.{EntityType}
+use Rattle.smt_term.specs.declared.texts.TextSet.{TextSet}
 use Rattle.law_terms.specs.TypeValues.{Enums, members_of}
 use Rattle.smt_symbolizer.specs.Named.{said}
 

@@ -6,14 +6,14 @@ use Rattle.std.specs.Rc.{rc_str_bytes}
 use Rattle.std.specs.declared.alloc.Global.{Global}
 use Rattle.std.specs.declared.rc.RcStr.{RcStr}
 use Rattle.smt_values.specs.Plain.{KnownFields}
-use Rattle.smt_cedar.specs.Plain.{PlainValue}
-use Rattle.smt_cedar.specs.ValueView.{known_field as field_said, known_fields, parts_held}
-use Rattle.smt_cedar.specs.declared.value.PartialMap.{PartialMap}
-use Rattle.smt_cedar.specs.declared.value.PartialValue.{PartialValue}
-use Rattle.smt_types.specs.SortedPairs.{sorted_pairs}
+use Rattle.smt_values.specs.PlainValues.{PlainValue}
+use Rattle.smt_values.specs.ValueView.{known_field as field_said, known_fields, parts_held}
+use Rattle.smt_values.specs.declared.value.PartialMap.{PartialMap}
+use Rattle.smt_values.specs.declared.value.PartialValue.{PartialValue}
+use Rattle.smt_term.specs.SortedPairs.{sorted_pairs}
 use Rattle.law_terms.specs.ValueOrder.{ascends, text_cmp}
 use Rattle.law_cedar.specs.Tables.{known_field, known_value}
-use Rattle.smt_values.proofs.Ascending.{pairs_in_order}
+use Rattle.smt_term.proofs.InOrder.{pairs_in_order}
 use Rattle.smt_values.specs.Outcomes.{Outcome, ◌>>=◌, each}
 
 abbrev Pairs : Type 0

@@ -4,8 +4,8 @@ use Rattle.std.proofs.lemmas.List.{take_all}
 use Rattle.std.specs.Map.{keys_of}
 use Rattle.std.specs.Prelude.{IsTrue}
 use Rattle.law_terms.specs.ValueOrder.{ascends, text_cmp}
-use Rattle.smt_types.specs.Entities.{bytes_of_type}
-use Rattle.smt_types.specs.declared.entity.EntityType.{EntityType}
+use Rattle.smt_term.specs.Entities.{bytes_of_type}
+use Rattle.smt_term.specs.declared.entity.EntityType.{EntityType}
 use Rattle.smt_symbolizer.specs.Named.{said}
 
 module _ {V P : Type 0} (view : V → P) where

@@ -12,13 +12,13 @@ use Rattle.std.specs.declared.cmp.Ordering.{Ordering}
 use Rattle.std.specs.declared.cmp.Ordering.TheVariants.{Less, Equal, Greater}
 use Rattle.law_terms.proofs.ValueOrder.{text_same}
 use Rattle.law_terms.specs.ValueOrder.{ascends, text_cmp}
-use Rattle.smt_cedar.proofs.PutPairs.{ascend_put, seen_put}
-use Rattle.smt_types.proofs.LastPairs.{last_pairs}
-use Rattle.smt_types.proofs.SortedPairs.{said-inserted, sorted-push}
-use Rattle.smt_types.specs.Entities.{bytes_of_type}
-use Rattle.smt_types.specs.SortedPairs.{sorted_pairs}
-use Rattle.smt_types.specs.contracts.entity.EntityTypeOrd.TheImpl as type_order
-use Rattle.smt_types.specs.declared.entity.EntityType.{EntityType}
+use Rattle.smt_values.proofs.PutPairs.{ascend_put, seen_put}
+use Rattle.smt_term.proofs.LastPairs.{last_pairs}
+use Rattle.smt_term.proofs.SortedPairs.{said-inserted, sorted-push}
+use Rattle.smt_term.specs.Entities.{bytes_of_type}
+use Rattle.smt_term.specs.SortedPairs.{sorted_pairs}
+use Rattle.smt_term.specs.contracts.entity.EntityTypeOrd.TheImpl as type_order
+use Rattle.smt_term.specs.declared.entity.EntityType.{EntityType}
 use Rattle.smt_symbolizer.specs.ByType.{pairs_held, said_by}
 use Rattle.smt_symbolizer.specs.Named.{named, said}
 use Rattle.smt_symbolizer.specs.declared.by_type.ByType.{ByType}

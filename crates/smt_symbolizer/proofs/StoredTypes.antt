@@ -3,10 +3,10 @@ use Rattle.std.proofs.Common.{◌≡◌, ℕ, List, ◌++◌, Option, Some, None
 use Rattle.std.proofs.lemmas.List.{map-append}
 use Rattle.std.specs.List.{flat_map}
 use Rattle.smt_values.specs.Plain.{PlainEntity, PlainSchema}
-use Rattle.smt_cedar.specs.Cedar.{PlainCedar, CedarAttributes}
-use Rattle.smt_cedar.specs.TypeOfCedar.{type_of_cedar}
-use Rattle.smt_types.specs.SortedPairs.{sorted_pairs}
-use Rattle.smt_types.specs.declared.entity.EntityType.{EntityType}
+use Rattle.smt_values.specs.Cedar.{PlainCedar, CedarAttributes}
+use Rattle.smt_values.specs.TypeOfCedar.{type_of_cedar}
+use Rattle.smt_term.specs.SortedPairs.{sorted_pairs}
+use Rattle.smt_term.specs.declared.entity.EntityType.{EntityType}
 use Rattle.law_terms.specs.Functions.{PlainUnary}
 use Rattle.law_terms.specs.Plain.{PlainType, PlainTerm}
 use Rattle.law_terms.specs.ValueOrder.{text_cmp}
@@ -18,7 +18,7 @@ use Rattle.smt_symbolizer.specs.Named.{named, said}
 use Rattle.smt_symbolizer.specs.Stored.{data_of, keys_of_tags, tags_held_of}
 use Rattle.smt_symbolizer.specs.EntityView.{plain_data}
 use Rattle.smt_symbolizer.specs.declared.entity_data.SymEntityData.{SymEntityData}
-use Rattle.smt_types.specs.TypeKinds.{tag_type}
+use Rattle.smt_term.specs.TypeKinds.{tag_type}
 use Rattle.smt_values.specs.Outcomes.{Outcome, ◌>>=◌, converted, each}
 
 abbrev tags_with : (keys tag_values : PlainUnary) → PlainTags

@@ -1,6 +1,6 @@
 -- The plain form of maps by entity types.
 use Rattle.std.specs.Prelude.{ℕ, List, map}
-use Rattle.smt_types.specs.declared.entity.EntityType.{EntityType}
+use Rattle.smt_term.specs.declared.entity.EntityType.{EntityType}
 use Rattle.smt_symbolizer.specs.Named.{said}
 use Rattle.smt_symbolizer.specs.declared.by_type.ByType.{ByType}
 

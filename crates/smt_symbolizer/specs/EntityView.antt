@@ -1,6 +1,6 @@
 -- The plain form of what there is to say of entities, without where it lies in memory.
 use Rattle.std.specs.Prelude.{option_map}
-use Rattle.smt_types.specs.TextSets.{texts_of}
+use Rattle.smt_term.specs.TextSets.{texts_of}
 use Rattle.smt_term.specs.Functions.{plain_unary}
 use Rattle.law_cedar.specs.Plain.{PlainTags, PlainData, PlainEntities}
 use Rattle.smt_symbolizer.specs.ByType.{said_by}

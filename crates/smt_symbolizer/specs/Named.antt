@@ -1,7 +1,7 @@
 -- Pairs of an entity type and a value, by the bytes of the type.
 use Rattle.std.specs.Prelude.{ℕ, List}
-use Rattle.smt_types.specs.Entities.{bytes_of_type}
-use Rattle.smt_types.specs.declared.entity.EntityType.{EntityType}
+use Rattle.smt_term.specs.Entities.{bytes_of_type}
+use Rattle.smt_term.specs.declared.entity.EntityType.{EntityType}
 
 -- a pair of an entity type and a value, the type as the bytes of its name
 abbrev pub named : {V : Type 0} → EntityType × V → List ℕ × V

@@ -8,7 +8,8 @@ use Rattle.law_cedar.specs.Tables.{entity_term}
 
 -- the symbolic request whose principal, action and resource are the literals of these entities, and whose context is this term
 abbrev pub request_with : (principal action resource : Uid) → (context : PlainTerm) → PlainSymbolicRequest
-request_with principal action resource context = record { principal = entity_term principal; action = entity_term action; resource = entity_term resource; context = context }
+request_with principal action resource context =
+    record { principal = entity_term principal; action = entity_term action; resource = entity_term resource; context = context }
 
 -- the symbolic environment of a symbolic request and of what is said of entities, or the fault of the latter
 abbrev pub with_request : PlainSymbolicRequest → Outcome PlainEntities → Outcome PlainSymbolicEnvironment

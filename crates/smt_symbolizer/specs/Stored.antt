@@ -2,14 +2,14 @@
 -- elsewhere is the default of its results' type.
 use Rattle.std.specs.Prelude.{ℕ, List, [], Option, Some, None, Ok, map}
 use Rattle.std.specs.List.{flat_map}
-use Rattle.smt_types.specs.SortedPairs.{sorted_pairs}
-use Rattle.smt_types.specs.TextSets.{sorted_texts}
+use Rattle.smt_term.specs.SortedPairs.{sorted_pairs}
+use Rattle.smt_term.specs.TextSets.{sorted_texts}
 use Rattle.law_terms.specs.Functions.{PlainUnary}
 use Rattle.law_terms.specs.Plain.{PlainType, EntityType, RecordType, SetType, StringType, no_attributes, PlainTerm}
 use Rattle.law_terms.specs.ValueOrder.{text_cmp}
-use Rattle.smt_types.specs.TypeKinds.{tag_type}
-use Rattle.smt_cedar.specs.Cedar.{PlainCedar, ClosedRecordType, CedarAttributes}
-use Rattle.smt_cedar.specs.TypeOfCedar.{type_of_cedar}
+use Rattle.smt_term.specs.TypeKinds.{tag_type}
+use Rattle.smt_values.specs.Cedar.{PlainCedar, ClosedRecordType, CedarAttributes}
+use Rattle.smt_values.specs.TypeOfCedar.{type_of_cedar}
 use Rattle.smt_values.specs.Plain.{PlainEntity, PlainAction}
 use Rattle.smt_values.specs.Outcomes.{Outcome, ◌>>=◌, converted, each}
 use Rattle.law_cedar.specs.Plain.{PlainTags, PlainData}
@@ -25,7 +25,8 @@ module _ (default : PlainType → PlainTerm) where
   -- the table of attributes of the stored entities of a type: for an entity the record of its attributes; or the first fault
   abbrev pub attributes_of : (type : List ℕ) → CedarAttributes → (stored : List PlainEntity) → Outcome PlainUnary
   attributes_of type attributes stored =
-      converted (type_of_cedar (ClosedRecordType attributes)) >>= λ own. each (attributes_entry attributes) stored >>= λ ps. Ok (table_of default (EntityType type) own ps)
+      converted (type_of_cedar (ClosedRecordType attributes)) >>=
+      λ own. each (attributes_entry attributes) stored >>= λ ps. Ok (table_of default (EntityType type) own ps)
 
   -- the table of ancestors of the stored entities of a type: for an entity the set of its ancestors of the type `kind`
   abbrev pub ancestors_of : (type kind : List ℕ) → (stored : List PlainEntity) → PlainUnary
@@ -55,7 +56,8 @@ module _ (default : PlainType → PlainTerm) where
 
   -- what there is to say of a standard type by its stored entities: the tables of their attributes, ancestors and tags; or the
   -- first fault
-  abbrev pub data_of : (type : List ℕ) → (kinds : List (List ℕ)) → CedarAttributes → Option PlainCedar → (stored : List PlainEntity) → Outcome PlainData
+  abbrev pub data_of : (type : List ℕ) → (kinds : List (List ℕ)) → CedarAttributes → Option PlainCedar → (stored : List PlainEntity) →
+      Outcome PlainData
   data_of type kinds attributes value stored =
       attributes_of type attributes stored >>= λ own. tags_held_of type value stored >>= λ tags. Ok (record {
         attributes = own;

@@ -1,14 +1,15 @@
 // What is said by entity types.
-ghost use Rattle.std.specs.Prelude.{◌≡◌, [], IfOk, IsTrue, OnErr, OnOk, bytes_eq, length, map, option_map};
+ghost use Rattle.std.specs.Prelude.{◌≡◌, [], IfOk, IsTrue, OnErr, OnOk, bytes_eq, length, map};
+ghost use Rattle.std.specs.Prelude.{option_map};
 ghost use Rattle.std.specs.BTreeMap.{insert_entry};
 ghost use Rattle.std.specs.Map.{lookup};
-ghost use Rattle.smt_types.specs.Entities.{bytes_of_type};
-ghost use Rattle.smt_types.specs.SortedPairs.{sorted_pairs};
+ghost use Rattle.smt_term.specs.Entities.{bytes_of_type};
+ghost use Rattle.smt_term.specs.SortedPairs.{sorted_pairs};
 ghost use Rattle.law_terms.specs.ValueOrder.{ascends, text_cmp};
 ghost use Rattle.smt_symbolizer.specs.Named.{named};
 
-use smt_cedar::put;
-use smt_types::{EntityType, TermError};
+use smt_term::{EntityType, TermError};
+use smt_values::put;
 use std::alloc::{AllocError, Global};
 use std::collections::BTreeMap;
 
@@ -36,7 +37,8 @@ impl<V: Drop> ByType<V> {
     /// # Errors
     /// `Memory`, where there is none for the pairs.
     pub fn of_pairs(alloc: Global, items: Vec<(EntityType, V)>) -> Result<ByType<V>, TermError>
-        ensures { IfOk result (λ made. map named (pairs_held made) ≡ sorted_pairs text_cmp (map named items.items)) }
+        ensures { IfOk result
+            (λ made. map named (pairs_held made) ≡ sorted_pairs text_cmp (map named items.items)) }
     {
         Ok(ByType {
             items: in_order(alloc, items)?,
@@ -56,7 +58,9 @@ impl<V: Drop> ByType<V> {
     /// # Errors
     /// Want of memory. The map stays as it is.
     pub fn push(&mut self, item: (EntityType, V)) -> Result<(), AllocError>
-        ensures put { OnOk result (map named (pairs_held self.new) ≡ insert_entry text_cmp (map named (pairs_held self.old)) (bytes_of_type item.0) item.1) }
+        ensures put { OnOk result (map named (pairs_held self.new)
+            ≡ insert_entry text_cmp (map named (pairs_held self.old)) (bytes_of_type item.0)
+            item.1) }
         ensures unchanged { OnErr result (pairs_held self.new ≡ pairs_held self.old) }
     {
         put(&mut self.items, item.0, item.1)
@@ -85,7 +89,8 @@ impl<V: Drop> ByType<V> {
 
     /// The value of a type, or `None` exactly where the type is not there.
     pub fn get(&self, ety: &EntityType) -> Option<&V>
-        ensures { option_map (λ value. value.now) result ≡ lookup (bytes_eq (bytes_of_type ety.now)) (map named (pairs_held self.now)) }
+        ensures { option_map (λ value. value.now) result
+            ≡ lookup (bytes_eq (bytes_of_type ety.now)) (map named (pairs_held self.now)) }
     {
         for (name, value) in self.items.as_slice() {
             if ety == name {
@@ -101,7 +106,8 @@ fn in_order<V: Drop>(
     alloc: Global,
     items: Vec<(EntityType, V)>,
 ) -> Result<Vec<(EntityType, V)>, TermError>
-    ensures { IfOk result (λ pairs. map named pairs.items ≡ sorted_pairs text_cmp (map named items.items)) }
+    ensures { IfOk result
+        (λ pairs. map named pairs.items ≡ sorted_pairs text_cmp (map named items.items)) }
 {
     let mut found = BTreeMap::new(alloc);
     for (ety, value) in items {

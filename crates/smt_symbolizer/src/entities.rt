@@ -1,12 +1,13 @@
 // What there is to say of the entities of each type.
 ghost use Rattle.std.specs.Prelude.{◌≡◌, IfOk, map, option_map};
-ghost use Rattle.smt_values.specs.View.{entry_named, plain_action, plain_entry, plain_schema, plain_stored, plain_types};
-ghost use Rattle.smt_cedar.specs.TypeView.{plain_cedar, plain_cedar_attributes};
+ghost use Rattle.smt_values.specs.View.{entry_named, plain_action, plain_entry, plain_schema};
+ghost use Rattle.smt_values.specs.View.{plain_stored, plain_types};
+ghost use Rattle.smt_values.specs.TypeView.{plain_cedar, plain_cedar_attributes};
 ghost use Rattle.smt_term.specs.Functions.{plain_unary};
 ghost use Rattle.smt_term.specs.Tables.{plain_entry as plain_pair};
-ghost use Rattle.smt_types.specs.Entities.{bytes_of_type};
-ghost use Rattle.smt_types.specs.Enums.{enums_of};
-ghost use Rattle.smt_types.specs.TextSets.{texts_of};
+ghost use Rattle.smt_term.specs.Entities.{bytes_of_type};
+ghost use Rattle.smt_term.specs.Enums.{enums_of};
+ghost use Rattle.smt_term.specs.TextSets.{texts_of};
 ghost use Rattle.law_cedar.specs.Symbolized as stated;
 ghost use Rattle.law_cedar.specs.Tables.{stored_of};
 ghost use Rattle.smt_symbolizer.specs.Named.{said};
@@ -20,10 +21,10 @@ use crate::entity_data::{AncestorMap, SymEntities, SymEntityData, SymTags};
 use crate::entries::ancestors_entry;
 use crate::schema_types::{action_ids, action_types, actions_of, own_types};
 use crate::tables::{ancestors_tables, attributes_table, table_of, table_of_sets, tags_tables};
-use smt_cedar::{Attributes, CedarType, EntityTypeList};
-use smt_term::{Term, TermType, TypeMap, UnaryFunction};
-use smt_types::{EntityType, EnumTable, TermError, TextSet};
-use smt_values::{ActionEntry, Entity, EntityEntry, Schema, SymbolizeError};
+use smt_term::{EntityType, EnumTable, Term, TermError, TermType, TextSet, TypeMap, UnaryFunction};
+use smt_values::{
+    ActionEntry, Attributes, CedarType, Entity, EntityEntry, EntityTypeList, Schema, SymbolizeError,
+};
 use std::alloc::{AllocError, Global};
 
 // ---- enum types
@@ -34,7 +35,9 @@ fn no_attributes(
     ety: &EntityType,
     enums: &EnumTable,
 ) -> Result<UnaryFunction, TermError>
-    ensures { IfOk result (λ f. plain_unary f ≡ stated.no_attributes_table (default_term (enums_of enums.now)) (bytes_of_type ety.now)) }
+    ensures { IfOk result (λ f.
+        plain_unary f
+        ≡ stated.no_attributes_table (default_term (enums_of enums.now)) (bytes_of_type ety.now)) }
 {
     let rty = TypeMap::new(alloc, &[])?;
     table_of(alloc, ety, TermType::Record { rty }, &[], enums)
@@ -47,7 +50,10 @@ fn enum_data(
     members: &TextSet,
     enums: &EnumTable,
 ) -> Result<SymEntityData, TermError>
-    ensures { IfOk result (λ made. plain_data made ≡ stated.enum_data (default_term (enums_of enums.now)) (bytes_of_type ety.now) (texts_of members.now)) }
+    ensures { IfOk result (λ made.
+        plain_data made
+        ≡ stated.enum_data (default_term (enums_of enums.now)) (bytes_of_type ety.now)
+        (texts_of members.now)) }
 {
     let members = members.share()?;
     let ancestors = AncestorMap::new(alloc);
@@ -68,7 +74,9 @@ fn stored_of<'a>(
     ety: &EntityType,
     entities: &'a [Entity],
 ) -> Result<Vec<&'a Entity>, AllocError>
-    ensures { IfOk result (λ found. map (λ entity. plain_stored entity.now) found.items ≡ stored_of (bytes_of_type ety.now) (map plain_stored entities.now)) }
+    ensures { IfOk result (λ found.
+        map (λ entity. plain_stored entity.now) found.items
+        ≡ stored_of (bytes_of_type ety.now) (map plain_stored entities.now)) }
 {
     let mut found: Vec<&'a Entity> = Vec::new(alloc);
     for entity in entities {
@@ -87,7 +95,9 @@ fn tags_held(
     stored: &[&Entity],
     enums: &EnumTable,
 ) -> Result<Option<SymTags>, SymbolizeError>
-    ensures { IsGiven (option_map plain_tags) result (held.tags_held_of (default_term (enums_of enums.now)) (bytes_of_type ety.now) (option_map plain_cedar tags.now) (map (λ entity. plain_stored entity.now) stored.now)) }
+    ensures { IsGiven (option_map plain_tags) result (held.tags_held_of
+        (default_term (enums_of enums.now)) (bytes_of_type ety.now)
+        (option_map plain_cedar tags.now) (map (λ entity. plain_stored entity.now) stored.now)) }
 {
     match tags {
         Some(ty) => Ok(Some(tags_tables(alloc, ety, ty, stored, enums)?)),
@@ -105,7 +115,9 @@ fn standard_data(
     stored: &[&Entity],
     enums: &EnumTable,
 ) -> Result<SymEntityData, SymbolizeError>
-    ensures { IsGiven plain_data result (held.data_of (default_term (enums_of enums.now)) (bytes_of_type ety.now) (plain_types kinds.now) (plain_cedar_attributes attrs.now) (option_map plain_cedar tags.now) (map (λ entity. plain_stored entity.now) stored.now)) }
+    ensures { IsGiven plain_data result (held.data_of (default_term (enums_of enums.now))
+        (bytes_of_type ety.now) (plain_types kinds.now) (plain_cedar_attributes attrs.now)
+        (option_map plain_cedar tags.now) (map (λ entity. plain_stored entity.now) stored.now)) }
 {
     let attrs = attributes_table(alloc, ety, attrs, stored, enums)?;
     let tags = tags_held(alloc, ety, tags, stored, enums)?;
@@ -126,7 +138,8 @@ fn type_data(
     entry: &EntityEntry,
     enums: &EnumTable,
 ) -> Result<SymEntityData, SymbolizeError>
-    ensures { IsGiven plain_data result (stated.type_data (default_term (enums_of enums.now)) (map plain_stored entities.now) (bytes_of_type ety.now) (plain_entry entry.now)) }
+    ensures { IsGiven plain_data result (stated.type_data (default_term (enums_of enums.now))
+        (map plain_stored entities.now) (bytes_of_type ety.now) (plain_entry entry.now)) }
 {
     match entry {
         EntityEntry::Standard {
@@ -148,7 +161,9 @@ fn typed_data(
     entry: &(EntityType, EntityEntry),
     enums: &EnumTable,
 ) -> Result<(EntityType, SymEntityData), SymbolizeError>
-    ensures { IsGiven (said plain_data) result (stated.typed_data (default_term (enums_of enums.now)) (map plain_stored entities.now) (entry_named entry.now)) }
+    ensures { IsGiven (said plain_data) result (stated.typed_data
+        (default_term (enums_of enums.now)) (map plain_stored entities.now)
+        (entry_named entry.now)) }
 {
     let own = type_data(alloc, entities, &entry.0, &entry.1, enums)?;
     Ok((entry.0.share()?, own))
@@ -161,7 +176,10 @@ fn all_typed_data(
     types: &[&(EntityType, EntityEntry)],
     enums: &EnumTable,
 ) -> Result<Vec<(EntityType, SymEntityData)>, SymbolizeError>
-    ensures { IsGiven (λ pairs. map (said plain_data) pairs.items) result (each (stated.typed_data (default_term (enums_of enums.now)) (map plain_stored entities.now)) (map (λ p. entry_named p.now) types.now)) }
+    ensures { IsGiven (λ pairs. map (said plain_data) pairs.items) result
+        (each
+        (stated.typed_data (default_term (enums_of enums.now)) (map plain_stored entities.now))
+        (map (λ p. entry_named p.now) types.now)) }
 {
     let mut pairs: Vec<(EntityType, SymEntityData)> = Vec::new(alloc);
     for entry in types {
@@ -178,7 +196,10 @@ fn action_entries(
     kind: &EntityType,
     actions: &[&ActionEntry],
 ) -> Result<Vec<(Term, Term)>, TermError>
-    ensures { IfOk result (λ pairs. map plain_pair pairs.items ≡ map (stated.action_entry (bytes_of_type kind.now)) (map (λ action. plain_action action.now) actions.now)) }
+    ensures { IfOk result (λ pairs.
+        map plain_pair pairs.items
+        ≡ map (stated.action_entry (bytes_of_type kind.now))
+        (map (λ action. plain_action action.now) actions.now)) }
 {
     let mut pairs: Vec<(Term, Term)> = Vec::new(alloc);
     for action in actions {
@@ -195,7 +216,13 @@ fn action_table(
     actions: &[&ActionEntry],
     enums: &EnumTable,
 ) -> Result<(EntityType, UnaryFunction), TermError>
-    ensures { IfOk result (λ pair. said plain_unary pair ≡ (bytes_of_type kind.now, held.action_table (default_term (enums_of enums.now)) (bytes_of_type ety.now) (bytes_of_type kind.now) (map (λ action. plain_action action.now) actions.now))) }
+    ensures { IfOk result (λ pair.
+        said plain_unary pair
+        ≡ (
+          bytes_of_type kind.now,
+          held.action_table (default_term (enums_of enums.now)) (bytes_of_type ety.now)
+              (bytes_of_type kind.now) (map (λ action. plain_action action.now) actions.now),
+        )) }
 {
     let pairs = action_entries(alloc, kind, actions)?;
     let name = kind.share()?;
@@ -213,7 +240,14 @@ fn action_tables(
     actions: &[&ActionEntry],
     enums: &EnumTable,
 ) -> Result<Vec<(EntityType, UnaryFunction)>, TermError>
-    ensures { IfOk result (λ pairs. map (said plain_unary) pairs.items ≡ map (λ kind. (kind, held.action_table (default_term (enums_of enums.now)) (bytes_of_type ety.now) kind (map (λ action. plain_action action.now) actions.now))) (map bytes_of_type kinds.now)) }
+    ensures { IfOk result (λ pairs.
+        map (said plain_unary) pairs.items
+        ≡ map (λ kind. (
+          kind,
+          held.action_table (default_term (enums_of enums.now)) (bytes_of_type ety.now) kind
+              (map (λ action. plain_action action.now) actions.now),
+        ))
+        (map bytes_of_type kinds.now)) }
 {
     let mut pairs: Vec<(EntityType, UnaryFunction)> = Vec::new(alloc);
     for kind in kinds {
@@ -230,7 +264,10 @@ fn data_of_actions(
     actions: &[&ActionEntry],
     enums: &EnumTable,
 ) -> Result<SymEntityData, TermError>
-    ensures { IfOk result (λ made. plain_data made ≡ held.data_of_actions (default_term (enums_of enums.now)) (bytes_of_type ety.now) (map bytes_of_type kinds.now) (map (λ action. plain_action action.now) actions.now)) }
+    ensures { IfOk result (λ made.
+        plain_data made
+        ≡ held.data_of_actions (default_term (enums_of enums.now)) (bytes_of_type ety.now)
+        (map bytes_of_type kinds.now) (map (λ action. plain_action action.now) actions.now)) }
 {
     let members = action_ids(alloc, actions)?;
     let pairs = action_tables(alloc, ety, kinds, actions, enums)?;
@@ -252,7 +289,14 @@ fn action_data(
     actions: &[ActionEntry],
     enums: &EnumTable,
 ) -> Result<(EntityType, SymEntityData), TermError>
-    ensures { IfOk result (λ pair. said plain_data pair ≡ (bytes_of_type ety.now, held.data_of_actions (default_term (enums_of enums.now)) (bytes_of_type ety.now) (map bytes_of_type kinds.now) (stated.actions_of (bytes_of_type ety.now) (map plain_action actions.now)))) }
+    ensures { IfOk result (λ pair.
+        said plain_data pair
+        ≡ (
+          bytes_of_type ety.now,
+          held.data_of_actions (default_term (enums_of enums.now)) (bytes_of_type ety.now)
+              (map bytes_of_type kinds.now)
+              (stated.actions_of (bytes_of_type ety.now) (map plain_action actions.now)),
+        )) }
 {
     let found = actions_of(alloc, ety, actions)?;
     let name = ety.share()?;
@@ -269,7 +313,14 @@ fn all_action_data(
     actions: &[ActionEntry],
     enums: &EnumTable,
 ) -> Result<Vec<(EntityType, SymEntityData)>, TermError>
-    ensures { IfOk result (λ pairs. map (said plain_data) pairs.items ≡ map (λ type. (type, held.data_of_actions (default_term (enums_of enums.now)) type (map bytes_of_type kinds.now) (stated.actions_of type (map plain_action actions.now)))) (map bytes_of_type kinds.now)) }
+    ensures { IfOk result (λ pairs.
+        map (said plain_data) pairs.items
+        ≡ map (λ type. (
+          type,
+          held.data_of_actions (default_term (enums_of enums.now)) type
+              (map bytes_of_type kinds.now) (stated.actions_of type (map plain_action actions.now)),
+        ))
+        (map bytes_of_type kinds.now)) }
 {
     let mut pairs: Vec<(EntityType, SymEntityData)> = Vec::new(alloc);
     for ety in kinds {
@@ -284,7 +335,14 @@ fn actions_data(
     actions: &[ActionEntry],
     enums: &EnumTable,
 ) -> Result<Vec<(EntityType, SymEntityData)>, TermError>
-    ensures { IfOk result (λ pairs. map (said plain_data) pairs.items ≡ map (λ type. (type, stated.action_data (default_term (enums_of enums.now)) (map plain_action actions.now) type)) (stated.action_types (map plain_action actions.now))) }
+    ensures { IfOk result (λ pairs.
+        map (said plain_data) pairs.items
+        ≡ map (λ type. (
+          type,
+          stated.action_data (default_term (enums_of enums.now)) (map plain_action actions.now)
+              type,
+        ))
+        (stated.action_types (map plain_action actions.now))) }
 {
     let kinds = action_types(alloc, actions)?;
     all_action_data(alloc, kinds.as_slice(), actions, enums)
@@ -306,7 +364,8 @@ pub(crate) fn entities_of(
     entities: &[Entity],
     enums: &EnumTable,
 ) -> Result<SymEntities, SymbolizeError>
-    ensures { IsGiven plain_entities result (stated.entities_of (default_term (enums_of enums.now)) (plain_schema schema.now) (map plain_stored entities.now)) }
+    ensures { IsGiven plain_entities result (stated.entities_of (default_term (enums_of enums.now))
+        (plain_schema schema.now) (map plain_stored entities.now)) }
 {
     let own = own_types(alloc, schema)?;
     let mut pairs = all_typed_data(alloc, entities, own.as_slice(), enums)?;

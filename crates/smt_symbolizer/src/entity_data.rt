@@ -1,13 +1,12 @@
 // What there is to say of entities.
 ghost use Rattle.std.specs.Prelude.{◌≡◌, IfOk, option_map};
-ghost use Rattle.smt_types.specs.TextSets.{texts_of};
+ghost use Rattle.smt_term.specs.TextSets.{texts_of};
 ghost use Rattle.smt_term.specs.Functions.{plain_unary};
 ghost use Rattle.smt_symbolizer.specs.ByType.{said_by};
 ghost use Rattle.smt_symbolizer.specs.EntityView.{plain_data, plain_entities, plain_tags};
 
 use crate::by_type::ByType;
-use smt_term::UnaryFunction;
-use smt_types::{EntityType, TermError, TextSet};
+use smt_term::{EntityType, TermError, TextSet, UnaryFunction};
 
 /// What there is to say of the tags of the entities of a type.
 #[derive(Debug, PartialEq, Eq)]
@@ -94,7 +93,8 @@ impl ByType<UnaryFunction> {
     /// # Errors
     /// `Memory`, where there is none for the map.
     pub fn share(&self) -> Result<AncestorMap, TermError>
-        ensures { IfOk result (λ shared. said_by plain_unary shared ≡ said_by plain_unary self.now) }
+        ensures { IfOk result
+            (λ shared. said_by plain_unary shared ≡ said_by plain_unary self.now) }
     {
         let mut pairs: Vec<(EntityType, UnaryFunction)> = self.room();
         for (kind, function) in self.items() {
@@ -132,7 +132,8 @@ fn shared_members(members: &Option<TextSet>) -> Result<Option<TextSet>, TermErro
 
 // The tags of a type's entities, where they may have any, shared.
 fn shared_tags(tags: &Option<SymTags>) -> Result<Option<SymTags>, TermError>
-    ensures { IfOk result (λ shared. option_map plain_tags shared ≡ option_map plain_tags tags.now) }
+    ensures { IfOk result
+        (λ shared. option_map plain_tags shared ≡ option_map plain_tags tags.now) }
 {
     match tags {
         Some(own) => Ok(Some(own.share()?)),

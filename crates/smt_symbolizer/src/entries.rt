@@ -4,25 +4,25 @@ ghost use Rattle.std.specs.List.{filter};
 ghost use Rattle.std.specs.Map.{keys_of};
 ghost use Rattle.std.specs.Rc.{rc_str_bytes};
 ghost use Rattle.smt_values.specs.View.{plain_stored, plain_uids};
-ghost use Rattle.smt_cedar.specs.TypeView.{plain_cedar, plain_cedar_attributes};
-ghost use Rattle.smt_cedar.specs.ValueView.{known_fields, plain_known};
+ghost use Rattle.smt_values.specs.TypeView.{plain_cedar, plain_cedar_attributes};
+ghost use Rattle.smt_values.specs.ValueView.{known_fields, plain_known};
 ghost use Rattle.law_folding.specs.FoldRecords.{tag_record};
 ghost use Rattle.smt_term.specs.Tables.{plain_entry};
-ghost use Rattle.smt_types.specs.Entities.{bytes_of_type, texts_of_entity};
+ghost use Rattle.smt_term.specs.Entities.{bytes_of_type, texts_of_entity};
 ghost use Rattle.law_cedar.specs.Tables as stated;
 ghost use Rattle.law_cedar.specs.Tables.{entity_term, text_term};
 ghost use Rattle.smt_symbolizer.specs.Stored.{all_tag_entries};
-ghost use Rattle.smt_term.specs.View.{plain_term};
+ghost use Rattle.smt_term.specs.View.{BuildsTerm, plain_terms};
 ghost use Rattle.smt_values.specs.Outcomes.{each};
 ghost use Rattle.smt_values.specs.Refused.{IsGiven};
 
 use crate::values::{fields_term, known_value};
-use smt_cedar::{Attributes, CedarType, PartialMap, PartialValue};
 use smt_factory_core::{set_of, tag_of};
-use smt_term::{Term, TermType};
+use smt_term::{Attr, EntityType, EntityUID, Term, TermError, TermType};
 use smt_text::share_text;
-use smt_types::{Attr, EntityType, EntityUID, TermError};
-use smt_values::{Entity, FromCedar, SymbolizeError, UidList};
+use smt_values::{
+    Attributes, CedarType, Entity, FromCedar, PartialMap, PartialValue, SymbolizeError, UidList,
+};
 use std::alloc::Global;
 
 /// The entity as a term: its literal.
@@ -30,14 +30,14 @@ use std::alloc::Global;
 /// # Errors
 /// `Memory`, where there is none for the term.
 pub(crate) fn entity_term(uid: &EntityUID) -> Result<Term, TermError>
-    ensures { IfOk result (λ t. plain_term t ≡ entity_term (texts_of_entity uid.now)) }
+    ensures { BuildsTerm result (entity_term (texts_of_entity uid.now)) }
 {
     Ok(Term::from(uid.share()?))
 }
 
 /// The text as a term.
 fn text_term(text: &Attr) -> Result<Term, TermError>
-    ensures { IfOk result (λ t. plain_term t ≡ text_term (rc_str_bytes text.now)) }
+    ensures { BuildsTerm result (text_term (rc_str_bytes text.now)) }
 {
     Ok(Term::from(share_text(text)?))
 }
@@ -48,7 +48,10 @@ fn terms_of_type(
     kind: &EntityType,
     uids: &[EntityUID],
 ) -> Result<Vec<Term>, TermError>
-    ensures { IfOk result (λ ts. map plain_term ts.items ≡ map entity_term (filter (λ uid. bytes_eq uid.0 (bytes_of_type kind.now)) (map texts_of_entity uids.now))) }
+    ensures { IfOk result (λ ts.
+        plain_terms ts.items
+        ≡ map entity_term
+        (filter (λ uid. bytes_eq uid.0 (bytes_of_type kind.now)) (map texts_of_entity uids.now))) }
 {
     let mut terms: Vec<Term> = Vec::new(alloc);
     for uid in uids {
@@ -65,7 +68,8 @@ pub(crate) fn set_of_type(
     kind: &EntityType,
     uids: &UidList,
 ) -> Result<Term, TermError>
-    ensures { IfOk result (λ t. plain_term t ≡ stated.set_of_type (bytes_of_type kind.now) (plain_uids uids.now)) }
+    ensures { BuildsTerm result
+        (stated.set_of_type (bytes_of_type kind.now) (plain_uids uids.now)) }
 {
     let terms = terms_of_type(alloc, kind, uids.items())?;
     set_of(
@@ -83,7 +87,8 @@ fn attributes_entry(
     attrs: &Attributes,
     entity: &Entity,
 ) -> Result<(Term, Term), SymbolizeError>
-    ensures { IsGiven plain_entry result (stated.attributes_entry (plain_cedar_attributes attrs.now) (plain_stored entity.now)) }
+    ensures { IsGiven plain_entry result
+        (stated.attributes_entry (plain_cedar_attributes attrs.now) (plain_stored entity.now)) }
 {
     let record = fields_term(alloc, attrs, &entity.attrs)?;
     Ok((entity_term(&entity.uid)?, record))
@@ -95,7 +100,9 @@ pub(crate) fn attributes_entries(
     attrs: &Attributes,
     stored: &[&Entity],
 ) -> Result<Vec<(Term, Term)>, SymbolizeError>
-    ensures { IsGiven (λ pairs. map plain_entry pairs.items) result (each (stated.attributes_entry (plain_cedar_attributes attrs.now)) (map (λ entity. plain_stored entity.now) stored.now)) }
+    ensures { IsGiven (λ pairs. map plain_entry pairs.items) result
+        (each (stated.attributes_entry (plain_cedar_attributes attrs.now))
+        (map (λ entity. plain_stored entity.now) stored.now)) }
 {
     let mut pairs: Vec<(Term, Term)> = Vec::new(alloc);
     for entity in stored {
@@ -113,7 +120,12 @@ pub(crate) fn ancestors_entry(
     uid: &EntityUID,
     ancestors: &UidList,
 ) -> Result<(Term, Term), TermError>
-    ensures { IfOk result (λ pair. plain_entry pair ≡ (entity_term (texts_of_entity uid.now), stated.set_of_type (bytes_of_type kind.now) (plain_uids ancestors.now))) }
+    ensures { IfOk result (λ pair.
+        plain_entry pair
+        ≡ (
+          entity_term (texts_of_entity uid.now),
+          stated.set_of_type (bytes_of_type kind.now) (plain_uids ancestors.now),
+        )) }
 {
     let set = set_of_type(alloc, kind, ancestors)?;
     Ok((entity_term(uid)?, set))
@@ -125,7 +137,10 @@ pub(crate) fn ancestors_entries(
     kind: &EntityType,
     stored: &[&Entity],
 ) -> Result<Vec<(Term, Term)>, TermError>
-    ensures { IfOk result (λ pairs. map plain_entry pairs.items ≡ map (stated.ancestors_entry (bytes_of_type kind.now)) (map (λ entity. plain_stored entity.now) stored.now)) }
+    ensures { IfOk result (λ pairs.
+        map plain_entry pairs.items
+        ≡ map (stated.ancestors_entry (bytes_of_type kind.now))
+        (map (λ entity. plain_stored entity.now) stored.now)) }
 {
     let mut pairs: Vec<(Term, Term)> = Vec::new(alloc);
     for entity in stored {
@@ -138,7 +153,8 @@ pub(crate) fn ancestors_entries(
 
 /// The keys of tags, as terms.
 fn key_terms(alloc: Global, tags: &PartialMap) -> Result<Vec<Term>, TermError>
-    ensures { IfOk result (λ ts. map plain_term ts.items ≡ map text_term (keys_of (known_fields tags.now))) }
+    ensures { IfOk result
+        (λ ts. plain_terms ts.items ≡ map text_term (keys_of (known_fields tags.now))) }
 {
     let mut terms: Vec<Term> = Vec::new(alloc);
     for (name, _part) in tags.items() {
@@ -161,7 +177,9 @@ pub(crate) fn keys_entries(
     alloc: Global,
     stored: &[&Entity],
 ) -> Result<Vec<(Term, Term)>, TermError>
-    ensures { IfOk result (λ pairs. map plain_entry pairs.items ≡ map stated.keys_entry (map (λ entity. plain_stored entity.now) stored.now)) }
+    ensures { IfOk result (λ pairs.
+        map plain_entry pairs.items
+        ≡ map stated.keys_entry (map (λ entity. plain_stored entity.now) stored.now)) }
 {
     let mut pairs: Vec<(Term, Term)> = Vec::new(alloc);
     for entity in stored {
@@ -172,7 +190,8 @@ pub(crate) fn keys_entries(
 
 /// The record of an entity and of the key of a tag.
 fn tag_key(alloc: Global, uid: &EntityUID, name: &Attr) -> Result<Term, TermError>
-    ensures { IfOk result (λ t. plain_term t ≡ tag_record (entity_term (texts_of_entity uid.now)) (text_term (rc_str_bytes name.now))) }
+    ensures { BuildsTerm result
+        (tag_record (entity_term (texts_of_entity uid.now)) (text_term (rc_str_bytes name.now))) }
 {
     let entity = entity_term(uid)?;
     tag_of(alloc, entity, text_term(name)?)
@@ -186,7 +205,8 @@ fn tag_entry(
     name: &Attr,
     part: &PartialValue,
 ) -> Result<(Term, Term), SymbolizeError>
-    ensures { IsGiven plain_entry result (stated.tag_entry (plain_cedar ty.now) (texts_of_entity uid.now) (rc_str_bytes name.now, plain_known part.now)) }
+    ensures { IsGiven plain_entry result (stated.tag_entry (plain_cedar ty.now)
+        (texts_of_entity uid.now) (rc_str_bytes name.now, plain_known part.now)) }
 {
     let v = known_value(part)?;
     let value = Term::from_value(alloc, v, ty)?;
@@ -199,7 +219,8 @@ fn tag_entries(
     ty: &CedarType,
     entity: &Entity,
 ) -> Result<Vec<(Term, Term)>, SymbolizeError>
-    ensures { IsGiven (λ pairs. map plain_entry pairs.items) result (stated.tag_entries (plain_cedar ty.now) (plain_stored entity.now)) }
+    ensures { IsGiven (λ pairs. map plain_entry pairs.items) result
+        (stated.tag_entries (plain_cedar ty.now) (plain_stored entity.now)) }
 {
     let mut pairs: Vec<(Term, Term)> = Vec::new(alloc);
     for (name, part) in entity.tags.items() {
@@ -214,7 +235,9 @@ pub(crate) fn all_tag_entries(
     ty: &CedarType,
     stored: &[&Entity],
 ) -> Result<Vec<(Term, Term)>, SymbolizeError>
-    ensures { IsGiven (λ pairs. map plain_entry pairs.items) result (all_tag_entries (plain_cedar ty.now) (map (λ entity. plain_stored entity.now) stored.now)) }
+    ensures { IsGiven (λ pairs. map plain_entry pairs.items) result
+        (all_tag_entries (plain_cedar ty.now)
+        (map (λ entity. plain_stored entity.now) stored.now)) }
 {
     let mut pairs: Vec<(Term, Term)> = Vec::new(alloc);
     for entity in stored {

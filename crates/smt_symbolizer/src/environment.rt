@@ -1,8 +1,8 @@
 // Symbolic environments.
 ghost use Rattle.std.specs.Prelude.{◌≡◌, ℕ, List, IfErr, IfOk, Ok, map};
 ghost use Rattle.smt_values.specs.View.{plain_env, plain_request_env, plain_schema, plain_stored};
-ghost use Rattle.smt_types.specs.Enums.{enums_of};
-ghost use Rattle.smt_types.specs.TextSets.{texts_of};
+ghost use Rattle.smt_term.specs.Enums.{enums_of};
+ghost use Rattle.smt_term.specs.TextSets.{texts_of};
 ghost use Rattle.law_terms.specs.TypeValues.{members_of};
 ghost use Rattle.law_cedar.specs.Laws.{IsSymbolicOf};
 ghost use Rattle.law_cedar.specs.Symbolized.{entities_of, environment_with, symbolized};
@@ -18,8 +18,7 @@ use crate::entities::entities_of;
 use crate::request::{asked_action, request_of};
 use crate::schema_types::{listed_types, table_of_members};
 use crate::{SymEntities, SymEntityData, listed};
-use smt_term::Term;
-use smt_types::{EntityType, EnumTable, TermError, TextSet};
+use smt_term::{EntityType, EnumTable, Term, TermError, TextSet};
 use smt_values::{Entity, Env, RequestEnv, Schema, SymbolizeError};
 use std::alloc::Global;
 
@@ -105,9 +104,15 @@ impl SymEnv {
         schema: &Schema,
         env: &Env,
     ) -> Result<SymEnv, SymbolizeError>
-        ensures given { IfOk result (λ made. symbolized (plain_request_env req_env.now) (plain_schema schema.now) (plain_env env.now) ≡ Ok (plain_environment made)) }
-        ensures stored { IfOk result (λ made. IsSymbolicOf (plain_request_env req_env.now) (plain_schema schema.now) (plain_env env.now) (plain_environment made)) }
-        ensures refused { IfErr result (λ e. IsRefusal e (symbolized (plain_request_env req_env.now) (plain_schema schema.now) (plain_env env.now))) }
+        ensures given { IfOk result (λ made.
+            symbolized (plain_request_env req_env.now) (plain_schema schema.now) (plain_env env.now)
+            ≡ Ok (plain_environment made)) }
+        ensures stored { IfOk result (λ made.
+            IsSymbolicOf (plain_request_env req_env.now) (plain_schema schema.now)
+            (plain_env env.now) (plain_environment made)) }
+        ensures refused { IfErr result (λ e.
+            IsRefusal e (symbolized (plain_request_env req_env.now) (plain_schema schema.now)
+            (plain_env env.now))) }
     {
         let enums = listed_types(alloc, schema)?;
         environment_with(alloc, req_env, schema, env, &enums)
@@ -118,7 +123,10 @@ impl SymEnv {
     /// # Errors
     /// `Memory`, where there is none for the table.
     pub fn enum_table(&self, alloc: Global) -> Result<EnumTable, TermError>
-        ensures { IfOk result (λ table. (t : List ℕ) → members_of (enums_of table) t ≡ members_of (listed_in (plain_entities self.now.entities)) t) }
+        ensures { IfOk result (λ table.
+            (t : List ℕ) →
+            members_of (enums_of table) t
+            ≡ members_of (listed_in (plain_entities self.now.entities)) t) }
     {
         let found = listed_entries(alloc, self.entities.items())?;
         table_of_members(alloc, found.as_slice())
@@ -130,7 +138,8 @@ fn listed_entries(
     alloc: Global,
     entities: &[(EntityType, SymEntityData)],
 ) -> Result<Vec<(EntityType, TextSet)>, TermError>
-    ensures { IfOk result (λ found. map (said texts_of) found.items ≡ listed_in (map (said plain_data) entities.now)) }
+    ensures { IfOk result (λ found.
+        map (said texts_of) found.items ≡ listed_in (map (said plain_data) entities.now)) }
 {
     let mut found: Vec<(EntityType, TextSet)> = Vec::new(alloc);
     for (ety, own) in entities {
@@ -149,7 +158,8 @@ fn environment_with(
     env: &Env,
     enums: &EnumTable,
 ) -> Result<SymEnv, SymbolizeError>
-    ensures { IsGiven plain_environment result (environment_with (default_term (enums_of enums.now)) (plain_request_env req_env.now) (plain_schema schema.now) (plain_env env.now)) }
+    ensures { IsGiven plain_environment result (environment_with (default_term (enums_of enums.now))
+        (plain_request_env req_env.now) (plain_schema schema.now) (plain_env env.now)) }
 {
     let action = asked_action(schema, req_env)?;
     let request = request_of(alloc, &action.context, &env.request)?;
@@ -164,7 +174,9 @@ fn with_entities(
     entities: &[Entity],
     enums: &EnumTable,
 ) -> Result<SymEnv, SymbolizeError>
-    ensures { IsGiven plain_environment result (with_request (plain_request request) (entities_of (default_term (enums_of enums.now)) (plain_schema schema.now) (map plain_stored entities.now))) }
+    ensures { IsGiven plain_environment result (with_request (plain_request request)
+        (entities_of (default_term (enums_of enums.now)) (plain_schema schema.now)
+        (map plain_stored entities.now))) }
 {
     let entities = entities_of(alloc, schema, entities, enums)?;
     Ok(SymEnv { request, entities })

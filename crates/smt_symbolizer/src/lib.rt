@@ -7,7 +7,7 @@
 //! Contracts speak of symbolic environments by their plain forms, which `specs/View.antt` and `specs/EntityView.antt` give. The
 //! symbolic environment of a schema, a request and a store, or the first fault, is defined in `specs/Symbolized.antt` and
 //! `specs/Tables.antt` of the crate `law_cedar`.
-#![tactic(auto, using(smt_cedar::specs::TypeView::cedar_views, smt_cedar::specs::ValueView::value_views, smt_term::specs::View::views))]
+#![tactic(auto, using(smt_values::specs::TypeView::cedar_views, smt_values::specs::ValueView::value_views, smt_term::specs::View::views))]
 
 mod by_type;
 mod entities;
@@ -25,12 +25,10 @@ pub use entity_data::{AncestorMap, SymEntities, SymEntityData, SymTags};
 pub use environment::{SymEnv, SymRequest};
 pub use names::{core_entity_type_into_entity_type, core_uid_into_uid};
 pub use schema_types::listed;
-pub use smt_cedar::{
-    AttributeType, Attributes, BoolType, CedarType, CompileError, EntityKind, EntityTypeList,
-    ExprList, ExtError, ExtFromCedar, Literal, OfType, OpenTag, PartialMap, PartialValue,
-    RestrictedExpr, Value, ValueList, ValueMap, of_record_type, value_of_ext,
-};
 pub use smt_values::{
-    ActionEntry, ActionList, Entities, Entity, EntityEntry, EntryMap, Env, FromCedar, Request,
-    RequestEnv, Schema, SymbolizeError, UidList, default_literal, from_record,
+    ActionEntry, ActionList, AttributeType, Attributes, BoolType, CedarType, CompileError,
+    Entities, Entity, EntityEntry, EntityKind, EntityTypeList, EntryMap, Env, ExprList, ExtError,
+    ExtFromCedar, FromCedar, Literal, OfType, OpenTag, PartialMap, PartialValue, Request,
+    RequestEnv, RestrictedExpr, Schema, SymbolizeError, UidList, Value, ValueList, ValueMap,
+    default_literal, from_record, of_record_type, value_of_ext,
 };

@@ -1,7 +1,7 @@
 // Types and names of entities, which are the same in terms as in Cedar's schemas and stores.
 ghost use Rattle.std.specs.Prelude.{◌≡◌};
 
-use smt_types::{EntityType, EntityUID};
+use smt_term::{EntityType, EntityUID};
 
 /// The type of terms' entities that stands for an entity type: the type itself.
 pub fn core_entity_type_into_entity_type(entity_type: &EntityType) -> &EntityType

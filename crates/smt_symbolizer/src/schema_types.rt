@@ -4,21 +4,22 @@ ghost use Rattle.std.specs.List.{filter_map};
 ghost use Rattle.std.specs.Option.{option_or};
 ghost use Rattle.std.specs.Rc.{rc_str_bytes};
 ghost use Rattle.smt_values.specs.View.{entry_named, plain_action, plain_schema};
-ghost use Rattle.smt_types.specs.Entities.{bytes_of_type};
-ghost use Rattle.smt_types.specs.Enums.{enums_of};
-ghost use Rattle.smt_types.specs.TextSets.{sorted_texts, texts_of};
+ghost use Rattle.smt_term.specs.Entities.{bytes_of_type};
+ghost use Rattle.smt_term.specs.Enums.{enums_of};
+ghost use Rattle.smt_term.specs.TextSets.{sorted_texts, texts_of};
 ghost use Rattle.law_terms.specs.TypeValues.{members_of};
 ghost use Rattle.law_cedar.specs.Symbolized as stated;
 ghost use Rattle.smt_symbolizer.specs.Named.{said};
 
+use smt_term::{EntityType, EnumTable, TermError, Text, TextSet};
 use smt_text::share_text;
-use smt_types::{EntityType, EnumTable, TermError, Text, TextSet};
 use smt_values::{ActionEntry, EntityEntry, Schema};
 use std::alloc::{AllocError, Global};
 
 /// Whether an action is of a type.
 fn is_action_type(actions: &[ActionEntry], ety: &EntityType) -> bool
-    ensures { result ≡ stated.is_action_type (map plain_action actions.now) (bytes_of_type ety.now) }
+    ensures { result
+        ≡ stated.is_action_type (map plain_action actions.now) (bytes_of_type ety.now) }
 {
     for action in actions {
         if action.uid.ety == *ety {
@@ -33,7 +34,8 @@ pub(crate) fn own_types(
     alloc: Global,
     schema: &Schema,
 ) -> Result<Vec<&(EntityType, EntityEntry)>, AllocError>
-    ensures { IfOk result (λ types. map (λ p. entry_named p.now) types.items ≡ stated.own_types (plain_schema schema.now)) }
+    ensures { IfOk result (λ types.
+        map (λ p. entry_named p.now) types.items ≡ stated.own_types (plain_schema schema.now)) }
 {
     let actions = schema.actions.items();
     let mut types: Vec<&(EntityType, EntityEntry)> = Vec::new(alloc);
@@ -49,7 +51,9 @@ pub(crate) fn own_types(
 
 /// The names of the actions' types.
 fn names_of_types(alloc: Global, actions: &[ActionEntry]) -> Result<Vec<Text>, AllocError>
-    ensures { IfOk result (λ names. map rc_str_bytes names.items ≡ map (λ action. action.uid.0) (map plain_action actions.now)) }
+    ensures { IfOk result (λ names.
+        map rc_str_bytes names.items
+        ≡ map (λ action. action.uid.0) (map plain_action actions.now)) }
 {
     let mut names: Vec<Text> = Vec::new(alloc);
     for action in actions {
@@ -74,7 +78,8 @@ pub(crate) fn action_types(
     alloc: Global,
     actions: &[ActionEntry],
 ) -> Result<Vec<EntityType>, TermError>
-    ensures { IfOk result (λ types. map bytes_of_type types.items ≡ stated.action_types (map plain_action actions.now)) }
+    ensures { IfOk result (λ types.
+        map bytes_of_type types.items ≡ stated.action_types (map plain_action actions.now)) }
 {
     let names = names_of_types(alloc, actions)?;
     let set = TextSet::new(alloc, names.as_slice())?;
@@ -87,7 +92,9 @@ pub(crate) fn actions_of<'a>(
     ety: &EntityType,
     actions: &'a [ActionEntry],
 ) -> Result<Vec<&'a ActionEntry>, AllocError>
-    ensures { IfOk result (λ found. map (λ action. plain_action action.now) found.items ≡ stated.actions_of (bytes_of_type ety.now) (map plain_action actions.now)) }
+    ensures { IfOk result (λ found.
+        map (λ action. plain_action action.now) found.items
+        ≡ stated.actions_of (bytes_of_type ety.now) (map plain_action actions.now)) }
 {
     let mut found: Vec<&ActionEntry> = Vec::new(alloc);
     for action in actions {
@@ -100,7 +107,9 @@ pub(crate) fn actions_of<'a>(
 
 /// The ids of these actions.
 fn ids_of(alloc: Global, actions: &[&ActionEntry]) -> Result<Vec<Text>, AllocError>
-    ensures { IfOk result (λ ids. map rc_str_bytes ids.items ≡ map (λ action. action.uid.1) (map (λ action. plain_action action.now) actions.now)) }
+    ensures { IfOk result (λ ids.
+        map rc_str_bytes ids.items
+        ≡ map (λ action. action.uid.1) (map (λ action. plain_action action.now) actions.now)) }
 {
     let mut ids: Vec<Text> = Vec::new(alloc);
     for action in actions {
@@ -111,7 +120,10 @@ fn ids_of(alloc: Global, actions: &[&ActionEntry]) -> Result<Vec<Text>, AllocErr
 
 /// The ids of these actions, in the order of their bytes, each once.
 pub(crate) fn action_ids(alloc: Global, actions: &[&ActionEntry]) -> Result<TextSet, TermError>
-    ensures { IfOk result (λ ids. texts_of ids ≡ sorted_texts (map (λ action. action.uid.1) (map (λ action. plain_action action.now) actions.now))) }
+    ensures { IfOk result (λ ids.
+        texts_of ids
+        ≡ sorted_texts
+        (map (λ action. action.uid.1) (map (λ action. plain_action action.now) actions.now))) }
 {
     let ids = ids_of(alloc, actions)?;
     TextSet::new(alloc, ids.as_slice())
@@ -134,7 +146,9 @@ fn enum_types(
     alloc: Global,
     types: &[&(EntityType, EntityEntry)],
 ) -> Result<Vec<(EntityType, TextSet)>, TermError>
-    ensures { IfOk result (λ found. map (said texts_of) found.items ≡ filter_map stated.enum_entry (map (λ p. entry_named p.now) types.now)) }
+    ensures { IfOk result (λ found.
+        map (said texts_of) found.items
+        ≡ filter_map stated.enum_entry (map (λ p. entry_named p.now) types.now)) }
 {
     let mut found: Vec<(EntityType, TextSet)> = Vec::new(alloc);
     for entry in types {
@@ -151,7 +165,12 @@ fn listed_actions(
     ety: &EntityType,
     actions: &[ActionEntry],
 ) -> Result<(EntityType, TextSet), TermError>
-    ensures { IfOk result (λ p. said texts_of p ≡ (bytes_of_type ety.now, stated.action_ids (map plain_action actions.now) (bytes_of_type ety.now))) }
+    ensures { IfOk result (λ p.
+        said texts_of p
+        ≡ (
+          bytes_of_type ety.now,
+          stated.action_ids (map plain_action actions.now) (bytes_of_type ety.now),
+        )) }
 {
     let found = actions_of(alloc, ety, actions)?;
     let ids = action_ids(alloc, found.as_slice())?;
@@ -164,7 +183,10 @@ fn types_of_actions(
     types: &[EntityType],
     actions: &[ActionEntry],
 ) -> Result<Vec<(EntityType, TextSet)>, TermError>
-    ensures { IfOk result (λ found. map (said texts_of) found.items ≡ map (λ type. (type, stated.action_ids (map plain_action actions.now) type)) (map bytes_of_type types.now)) }
+    ensures { IfOk result (λ found.
+        map (said texts_of) found.items
+        ≡ map (λ type. (type, stated.action_ids (map plain_action actions.now) type))
+        (map bytes_of_type types.now)) }
 {
     let mut found: Vec<(EntityType, TextSet)> = Vec::new(alloc);
     for ety in types {
@@ -175,7 +197,8 @@ fn types_of_actions(
 
 /// The types of a schema whose entities are listed, each with its members.
 fn listed_pairs(alloc: Global, schema: &Schema) -> Result<Vec<(EntityType, TextSet)>, TermError>
-    ensures { IfOk result (λ found. map (said texts_of) found.items ≡ stated.listed_types (plain_schema schema.now)) }
+    ensures { IfOk result
+        (λ found. map (said texts_of) found.items ≡ stated.listed_types (plain_schema schema.now)) }
 {
     let actions = schema.actions.items();
     let own = own_types(alloc, schema)?;
@@ -188,7 +211,10 @@ fn listed_pairs(alloc: Global, schema: &Schema) -> Result<Vec<(EntityType, TextS
 
 /// Enters a type with its members, where the table does not have it.
 fn enter(table: &mut EnumTable, ety: &EntityType, members: &TextSet) -> Result<(), TermError>
-    ensures { OnOk result ((t : List ℕ) → members_of (enums_of table.new) t ≡ option_or (members_of (enums_of table.old) t) (members_of ((bytes_of_type ety.now, texts_of members.now) ∷ []) t)) }
+    ensures { OnOk result ((t : List ℕ) →
+        members_of (enums_of table.new) t
+        ≡ option_or (members_of (enums_of table.old) t)
+        (members_of ((bytes_of_type ety.now, texts_of members.now) ∷ []) t)) }
 {
     table.insert(ety.share()?, members.items())?;
     Ok(())
@@ -202,7 +228,9 @@ pub(crate) fn table_of_members(
     alloc: Global,
     types: &[(EntityType, TextSet)],
 ) -> Result<EnumTable, TermError>
-    ensures { IfOk result (λ table. (t : List ℕ) → members_of (enums_of table) t ≡ members_of (map (said texts_of) types.now) t) }
+    ensures { IfOk result (λ table.
+        (t : List ℕ) →
+        members_of (enums_of table) t ≡ members_of (map (said texts_of) types.now) t) }
 {
     let mut table = EnumTable::new(alloc);
     for (ety, members) in types {
@@ -217,7 +245,10 @@ pub(crate) fn table_of_members(
 /// # Errors
 /// `Memory`, where there is none for the table.
 pub(crate) fn listed_types(alloc: Global, schema: &Schema) -> Result<EnumTable, TermError>
-    ensures { IfOk result (λ table. (t : List ℕ) → members_of (enums_of table) t ≡ members_of (stated.listed_types (plain_schema schema.now)) t) }
+    ensures { IfOk result (λ table.
+        (t : List ℕ) →
+        members_of (enums_of table) t
+        ≡ members_of (stated.listed_types (plain_schema schema.now)) t) }
 {
     let found = listed_pairs(alloc, schema)?;
     table_of_members(alloc, found.as_slice())

@@ -14,20 +14,20 @@ use denote.Hole.Carrier.{shown}
 use denote.Hole.Compared
 use mathlib.Core.Former
 use Rattle.smt_term.proofs.ExtensionValues.{ext_cmp-is}
-use Rattle.smt_types.proofs.DerivedOrder.{derived_type_cmp, type_cmp-is}
-use Rattle.smt_types.proofs.NamedPairs.{by_names, by_pairs, pairs-zipped, values}
-use Rattle.smt_types.proofs.ExtensionOrder.{extension_op_cmp-is}
-use Rattle.smt_types.proofs.PatternOrder.{pattern_cmp-is}
+use Rattle.smt_term.proofs.DerivedTypeOrder.{derived_type_cmp, type_cmp-is}
+use Rattle.smt_term.proofs.NamedPairs.{by_names, by_pairs, pairs-zipped, values}
+use Rattle.smt_term.proofs.ExtensionOrder.{extension_op_cmp-is}
+use Rattle.smt_term.proofs.PatternOrder.{pattern_cmp-is}
 use Rattle.smt_term.specs.Program.{FunctionsCompareAsPlain, ListsCompareAsPlain, SetsCompareAsPlain, VariablesCompareAsPlain}
 use Rattle.law_terms.specs.TermOrder.{fields_cmp, op_cmp, literal_cmp, term_cmp, terms_cmp}
 use Rattle.law_terms.specs.Types.{type_cmp}
 use Rattle.law_terms.specs.ValueOrder.{text_cmp}
-use Rattle.smt_types.specs.Pairs.{attributes_in, pairs_of}
-use Rattle.smt_types.specs.formers.pairs.AttributePairs as pairs
-use Rattle.smt_types.specs.NamedVecs.{attributes-got}
+use Rattle.smt_term.specs.Pairs.{attributes_in, pairs_of}
+use Rattle.smt_term.specs.formers.pairs.AttributePairs as pairs
+use Rattle.smt_term.specs.NamedVecs.{attributes-got}
 use Rattle.smt_term.specs.declared.maps.TermMap.{TermMap}
 use Rattle.smt_term.specs.View.{attributes_of, plain_type, plain_op, plain_literal, plain_named, plain_term, plain_row}
-use Rattle.smt_types.specs.declared.types.TermType.{TermType}
+use Rattle.smt_term.specs.declared.types.TermType.{TermType}
 use Rattle.smt_term.specs.declared.op.Op.{Op}
 use Rattle.smt_term.specs.declared.op.Op.TheVariants.{And, Ext as ExtensionOf, StringLike, Uuf}
 use Rattle.smt_term.specs.declared.term.TermPrim.{TermPrim}

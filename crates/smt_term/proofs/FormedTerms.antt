@@ -16,7 +16,7 @@ use Rattle.smt_term.specs.declared.term.Term.{Term, App', None, Prim, Record', S
 use Rattle.smt_term.specs.declared.term.TermPrim.{TermPrim}
 use Rattle.smt_term.specs.declared.term.TermPrim.TheVariants.{Bitvec as BitsLiteral, Bool as TruthLiteral, Entity as EntityOf, Ext as ValueOf, String as TextLiteral}
 use Rattle.smt_term.proofs.ExtensionValues.{formed_value}
-use Rattle.smt_types.proofs.FormedTypes.{formed_option, formed_set, formed_type}
+use Rattle.smt_term.proofs.FormedTypes.{formed_option, formed_set, formed_type}
 use Rattle.law_terms.proofs.Defaults.{all-join}
 use Rattle.law_terms.proofs.Soundness.{all-last}
 

@@ -3,8 +3,8 @@ use Rattle.std.proofs.Common.{◌≡◌, List, refl, ap, ◌∙◌}
 use Rattle.std.specs.FinMap.{slice_cmp-IsAntisymmetric}
 use Rattle.std.specs.Ordering.{ordering_then}
 use Rattle.std.specs.declared.cmp.Ordering.TheVariants.{Equal}
-use Rattle.smt_types.specs.Orders.{pair_cmp}
-use Rattle.smt_types.proofs.Orders.{are_ordered, lists_by_said, pairs_same}
+use Rattle.smt_term.specs.Ordered.{pair_cmp}
+use Rattle.smt_term.proofs.Orders.{are_ordered, lists_by_said, pairs_same}
 use Rattle.law_terms.proofs.SameTerm.{function_same, term_same}
 use Rattle.law_terms.proofs.TypeOrder.{type_same}
 use Rattle.law_terms.proofs.ValueOrder.{then_equal}
@@ -15,7 +15,7 @@ use Rattle.law_terms.specs.Types.{type_cmp}
 use Rattle.smt_term.proofs.DerivedOrder.{derived_term_cmp, function_cmp-is, term_cmp-is}
 use Rattle.smt_term.specs.View.{plain_term, plain_type}
 use Rattle.smt_term.specs.declared.term.Term.{Term}
-use Rattle.smt_types.proofs.DerivedOrder.{derived_type_cmp, type_cmp-is}
+use Rattle.smt_term.proofs.DerivedTypeOrder.{derived_type_cmp, type_cmp-is}
 use Rattle.smt_term.specs.Functions.{plain_definition, plain_unary}
 use Rattle.smt_term.specs.Orders.{DefinitionsAreOrdered, FunctionsAreOrdered, TermTablesAreOrdered, definition_cmp, entries_cmp, unary_cmp}
 use Rattle.smt_term.specs.Tables.{plain_entries, plain_entry}

@@ -6,7 +6,7 @@ use Rattle.law_terms.specs.Plain.{SetTerm, terms}
 use Rattle.smt_term.specs.View.{plain_elements, plain_term, plain_term-Set, plain_type}
 use Rattle.smt_term.specs.declared.term.Term.{Term, Set}
 use Rattle.smt_term.specs.declared.term.TermSet.{TermSet}
-use Rattle.smt_types.specs.declared.types.TermType.{TermType}
+use Rattle.smt_term.specs.declared.types.TermType.{TermType}
 
 -- whether all terms are literals, by one and the others
 abbrev pub literal_list : List Term → Bool

@@ -7,9 +7,9 @@ use Rattle.law_terms.specs.TermOrder.{term_cmp}
 use Rattle.law_terms.specs.ValueOrder.{text_cmp}
 use Rattle.law_terms.proofs.SameTerm.{term_same}
 use Rattle.law_terms.proofs.ValueOrder.{text_same}
-use Rattle.smt_types.specs.Orders.{pair_cmp}
-use Rattle.smt_types.proofs.Orders.{are_ordered, lists_by_said, pairs_same}
-use Rattle.smt_types.proofs.NamedPairs.{by_pairs}
+use Rattle.smt_term.specs.Ordered.{pair_cmp}
+use Rattle.smt_term.proofs.Orders.{are_ordered, lists_by_said, pairs_same}
+use Rattle.smt_term.proofs.NamedPairs.{by_pairs}
 use Rattle.smt_term.specs.Program.{TermMapsAreOrdered}
 use Rattle.smt_term.specs.View.{plain_field, plain_fields}
 use Rattle.smt_term.specs.contracts.maps.TermMapOrd.TheImpl.Laws as map_laws

@@ -8,11 +8,11 @@ use Rattle.std.specs.declared.rc.RcStr.{RcStr}
 use Rattle.law_terms.proofs.ValueOrder.{text_same}
 use Rattle.law_terms.specs.ValueOrder.{text_cmp}
 use Rattle.smt_term.specs.Maps.{plain_field}
-use Rattle.smt_types.specs.SortedPairs.{sorted_pairs}
+use Rattle.smt_term.specs.SortedPairs.{sorted_pairs}
 use Rattle.smt_term.specs.View.{plain_term}
 use Rattle.smt_term.specs.declared.term.Term.{Term}
-use Rattle.smt_types.proofs.PutTexts.{by_bytes}
-use Rattle.smt_types.proofs.SortedPairs.{pair_put}
+use Rattle.smt_term.proofs.PutTexts.{by_bytes}
+use Rattle.smt_term.proofs.SortedPairs.{pair_put}
 
 pub field_put : (items : List (RcStr Global × Term)) (i : ℕ) (x : RcStr Global × Term) (k : RcStr Global) (v : Term) (found found' : List (RcStr Global × Term)) → i < length items → x ≡ get_or items i x
     → rc_str_bytes k ≡ rc_str_bytes x.0 → plain_term v ≡ plain_term x.1 → found' ≡ insert_entry by_bytes found k v

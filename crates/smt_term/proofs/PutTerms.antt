@@ -4,8 +4,8 @@ use Rattle.std.proofs.lemmas.List.{at_drop_more}
 use Rattle.std.specs.BTreeMap.{insert_entry}
 use Rattle.std.specs.Map.{lookup}
 use Rattle.smt_term.specs.Tables.{plain_entry}
-use Rattle.smt_types.proofs.SortedPairs.{pair_put}
-use Rattle.smt_types.specs.SortedPairs.{sorted_pairs}
+use Rattle.smt_term.proofs.SortedPairs.{pair_put}
+use Rattle.smt_term.specs.SortedPairs.{sorted_pairs}
 use Rattle.law_terms.proofs.SameTerm.{term_same}
 use Rattle.law_terms.proofs.TermTotal.{terms_total}
 use Rattle.law_terms.specs.TermOrder.{term_cmp, term_eq}

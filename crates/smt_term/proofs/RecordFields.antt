@@ -10,7 +10,7 @@ use Rattle.std.specs.declared.alloc.Global.{Global}
 use Rattle.std.specs.declared.cmp.Ordering.{Ordering}
 use Rattle.std.specs.declared.cmp.Ordering.TheVariants.{Less, Equal, Greater}
 use Rattle.std.specs.declared.rc.RcStr.{RcStr}
-use Rattle.smt_types.specs.Pairs.{attributes_in}
+use Rattle.smt_term.specs.Pairs.{attributes_in}
 use Rattle.law_terms.specs.Literals.{are_literal_fields, is_literal}
 use Rattle.law_terms.specs.Plain.{PlainType, RecordType, attribute, PlainTerm, attribute_types, record_fields}
 use Rattle.law_terms.specs.Types.{attribute_in, attribute_type, field_types, type_cmp, type_eq, type_of}
@@ -19,7 +19,7 @@ use Rattle.law_terms.specs.ValueOrder.{ascends, text_cmp}
 use Rattle.smt_term.specs.View.{fields_of, plain_attribute, plain_field, plain_fields, plain_term, plain_term-Record, plain_type}
 use Rattle.smt_term.specs.declared.maps.TermMap.{TermMap}
 use Rattle.smt_term.specs.declared.term.Term.{Term, Record}
-use Rattle.smt_types.specs.declared.types.TermType.{TermType}
+use Rattle.smt_term.specs.declared.types.TermType.{TermType}
 
 -- attributes with the types of what stands beside them
 abbrev pub typed_pairs : {X : Type 0} → (X → PlainType) → List (RcStr Global × X) → List (List ℕ × PlainType)

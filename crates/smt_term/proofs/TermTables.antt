@@ -8,8 +8,8 @@ use Rattle.law_terms.specs.Plain.{PlainTerm}
 use Rattle.law_terms.specs.TermOrder.{term_cmp, term_eq}
 use Rattle.law_terms.specs.ValueOrder.{ascends}
 use Rattle.smt_term.specs.Tables.{TermTablesAscend, plain_entry}
-use Rattle.smt_types.specs.SortedPairs.{sorted_pairs}
-use Rattle.smt_types.proofs.LastPairs.{last_pairs}
+use Rattle.smt_term.specs.SortedPairs.{sorted_pairs}
+use Rattle.smt_term.proofs.LastPairs.{last_pairs}
 use Rattle.smt_term.specs.View.{plain_term}
 use Rattle.smt_term.specs.declared.term.Term.{Term}
 

@@ -21,7 +21,7 @@ use Rattle.smt_term.specs.declared.op.OpClass.TheVariants.{Bits, Test, Other}
 use Rattle.smt_term.specs.declared.term.Term.{Term, App, Set}
 use Rattle.smt_term.specs.declared.term.TermSet.{TermSet}
 use Rattle.smt_term.specs.declared.term.TermList.{TermList}
-use Rattle.smt_types.specs.declared.types.TermType.{TermType}
+use Rattle.smt_term.specs.declared.types.TermType.{TermType}
 
 types_listed : (ts : List PlainTerm) → types_of (terms ts) ≡ map type_of ts
 types_listed [] = refl

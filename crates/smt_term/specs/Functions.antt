@@ -8,7 +8,8 @@ use Rattle.smt_term.specs.declared.unary_function.UnaryFunction.TheVariants.{Uuf
 
 -- what a function says that a table defines: its types, its entries in order, and its term elsewhere
 abbrev pub plain_definition : Udf → PlainDefinition
-plain_definition f = record { argument = plain_type f.arg; output = plain_type f.out; entries = plain_entries f.table; elsewhere = plain_term f.default }
+plain_definition f =
+    record { argument = plain_type f.arg; output = plain_type f.out; entries = plain_entries f.table; elsewhere = plain_term f.default }
 
 -- what a function of one argument says: one that an interpretation gives, or one that a table defines
 abbrev pub plain_unary : UnaryFunction → PlainUnary

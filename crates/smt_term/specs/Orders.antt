@@ -4,7 +4,7 @@ use Rattle.std.specs.Ordering.{ordering_then}
 use Rattle.std.specs.Cmp.Lexicographic.{slice_cmp}
 use Rattle.std.specs.declared.cmp.Ordering.{Ordering}
 use Rattle.std.specs.declared.cmp.Ordering.TheVariants.{Less, Greater}
-use Rattle.smt_types.specs.Orders.{AreOrdered, pair_cmp}
+use Rattle.smt_term.specs.Ordered.{AreOrdered, pair_cmp}
 use Rattle.law_terms.specs.Functions.{PlainDefinition, PlainUnary, Uninterpreted, Defined}
 use Rattle.law_terms.specs.Plain.{PlainTerm}
 use Rattle.law_terms.specs.TermOrder.{function_cmp, term_cmp}
@@ -24,7 +24,9 @@ entries_cmp = slice_cmp (pair_cmp term_cmp term_cmp)
 
 -- the order of functions that tables define: by the types, then the entries, then the term elsewhere
 abbrev pub definition_cmp : PlainDefinition → PlainDefinition → Ordering
-definition_cmp f g = ordering_then (type_cmp f.argument g.argument) (ordering_then (type_cmp f.output g.output) (ordering_then (entries_cmp f.entries g.entries) (term_cmp f.elsewhere g.elsewhere)))
+definition_cmp f g =
+    ordering_then (type_cmp f.argument g.argument)
+    (ordering_then (type_cmp f.output g.output) (ordering_then (entries_cmp f.entries g.entries) (term_cmp f.elsewhere g.elsewhere)))
 
 -- the order of functions of one argument: uninterpreted ones before those that a table defines
 abbrev pub unary_cmp : PlainUnary → PlainUnary → Ordering

@@ -9,7 +9,10 @@ use Rattle.smt_ext.specs.IpPrinted.{range_text}
 use Rattle.smt_ext.specs.IpRanges.{Version4, Version6}
 use Rattle.smt_ext.specs.Printed.{decimal_text}
 use Rattle.law_terms.specs.Names.{extension_op_name, op_name}
-use Rattle.law_terms.specs.Plain.{PlainExtension, DecimalOf, Ipv4Of, Ipv6Of, DatetimeOf, DurationOf, PatternPart, Character, Wildcard, PlainOp, ExtOp, RecordGetOp, StringLikeOp, UufOp, PlainLiteral, BitVecLiteral, BoolLiteral, EntityLiteral, ExtensionLiteral, StringLiteral, PlainTerm, Application, NoneTerm, LiteralTerm, RecordTerm, SetTerm, SomeTerm, VariableTerm, PlainTerms, no_terms, one_term, PlainFields, no_fields, one_field}
+use Rattle.law_terms.specs.Plain.{PlainExtension, DecimalOf, Ipv4Of, Ipv6Of, DatetimeOf, DurationOf, PatternPart, Character, Wildcard}
+use Rattle.law_terms.specs.Plain.{PlainOp, ExtOp, RecordGetOp, StringLikeOp, UufOp, PlainLiteral, BitVecLiteral, BoolLiteral, EntityLiteral}
+use Rattle.law_terms.specs.Plain.{ExtensionLiteral, StringLiteral, PlainTerm, Application, NoneTerm, LiteralTerm, RecordTerm, SetTerm}
+use Rattle.law_terms.specs.Plain.{SomeTerm, VariableTerm, PlainTerms, no_terms, one_term, PlainFields, no_fields, one_field}
 use Rattle.law_texts.specs.LineTexts.{comma_separated}
 
 -- ---- ids and patterns

@@ -4,10 +4,11 @@ use Rattle.std.specs.Cmp.Lexicographic.{slice_cmp}
 use Rattle.law_terms.specs.Formed.{IsFormed}
 use Rattle.law_terms.specs.TermOrder.{function_cmp, op_cmp, literal_cmp, term_cmp}
 use Rattle.law_terms.specs.ValueOrder.{text_cmp}
-use Rattle.smt_types.specs.Orders.{AreOrdered, pair_cmp}
+use Rattle.smt_term.specs.Ordered.{AreOrdered, pair_cmp}
 use Rattle.smt_term.specs.contracts.maps.TermMapOrd.TheImpl as map_order
 use Rattle.smt_term.specs.contracts.maps.TermMapPartialEq.TheImpl as map_equality
-use Rattle.smt_term.specs.View.{plain_elements, plain_fields, plain_function, plain_items, plain_literal, plain_op, plain_term, plain_variable}
+use Rattle.smt_term.specs.View.{plain_elements, plain_fields, plain_function, plain_items, plain_literal, plain_op, plain_term}
+use Rattle.smt_term.specs.View.{plain_variable}
 use Rattle.smt_term.specs.contracts.function.UufOrd.TheImpl as function_order
 use Rattle.smt_term.specs.contracts.function.UufPartialEq.TheImpl as function_equality
 use Rattle.smt_term.specs.contracts.op.OpOrd.TheImpl as op_order
@@ -29,7 +30,7 @@ use Rattle.smt_term.specs.declared.term.TermList.{TermList}
 use Rattle.smt_term.specs.declared.term.TermPrim.{TermPrim}
 use Rattle.smt_term.specs.declared.term.TermSet.{TermSet}
 use Rattle.smt_term.specs.declared.term.TermVar.{TermVar}
-pub use Rattle.smt_types.specs.Program.{EqualTypesSayTheSame, TypesCompareAsPlain}
+pub use Rattle.smt_term.specs.ProgramTypes.{EqualTypesSayTheSame, TypesCompareAsPlain}
 
 -- every term is formed
 abbrev pub TermsAreFormed : Type 0

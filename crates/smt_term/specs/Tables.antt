@@ -2,7 +2,7 @@
 use Rattle.std.specs.Prelude.{List, IsTrue, map}
 use Rattle.std.specs.Map.{keys_of}
 use Rattle.smt_term.specs.declared.table.TermTable.{TermTable}
-use Rattle.smt_types.specs.SortedPairs.{AreLastPairs, sorted_pairs}
+use Rattle.smt_term.specs.SortedPairs.{AreLastPairs, sorted_pairs}
 use Rattle.law_terms.specs.Plain.{PlainTerm}
 use Rattle.law_terms.specs.TermOrder.{term_cmp, term_eq}
 use Rattle.law_terms.specs.ValueOrder.{ascends}

@@ -1,6 +1,6 @@
 -- The plain form of the program's operators and terms: what they say, without where they lie in memory. That of types is
--- the one of `smt_types`.
-use Rattle.std.specs.Prelude.{ℕ, List, [], ◌∷◌, map, ◌≡◌, refl}
+-- in `TypeView`.
+use Rattle.std.specs.Prelude.{ℕ, List, [], ◌∷◌, map, ◌≡◌, refl, IfOk, Result}
 use Rattle.std.specs.List.{zip}
 use Rattle.smt_bits.specs.BitVec.{number_of, width_of}
 use Rattle.std.proofs.Common.{ap, ◌∙◌}
@@ -8,26 +8,39 @@ use Rattle.std.specs.Rc.{rc_str_bytes}
 use Rattle.std.specs.declared.alloc.Global.{Global}
 use Rattle.std.specs.declared.rc.Rc.{Rc}
 use Rattle.std.specs.declared.rc.RcStr.{RcStr}
-use Rattle.smt_types.specs.Entities.{bytes_of_id, bytes_of_type}
+use Rattle.smt_term.specs.Entities.{bytes_of_id, bytes_of_type}
 use Rattle.smt_ext.specs.ExtOrder.{plain_value}
-use Rattle.smt_types.specs.ExtensionView.{plain_extension_op}
-use Rattle.smt_types.specs.PatternView.{plain_ord_pattern}
-use Rattle.law_numbers.specs.BitOperators.{BvaddOp, BvlshrOp, BvmulOp, BvsdivOp, BvshlOp, BvsmodOp, BvsremOp, BvsubOp, BvudivOp, BvuremOp, BvsleOp, BvsltOp, BvuleOp, BvultOp, BvsaddoOp, BvsmuloOp, BvssuboOp}
-use Rattle.law_terms.specs.Plain.{PlainFunction, PlainOp, AndOp, BvnegOp, BvnegoOp, EqOp, ExtOp, IteOp, NotOp, OptionGetOp, OrOp, RecordGetOp, SetInterOp, SetMemberOp, SetSubsetOp, StringLikeOp, UufOp, ZeroExtendOp, PlainLiteral, BitVecLiteral, BoolLiteral, EntityLiteral, ExtensionLiteral, StringLiteral, PlainTerm, Application, NoneTerm, LiteralTerm, RecordTerm, SetTerm, SomeTerm, VariableTerm, PlainFields, no_fields, one_field, PlainTerms, no_terms, one_term, terms, BitsOp, TestOp, OverflowOp, record_fields}
-use Rattle.smt_types.specs.Pairs.{attributes_in, pairs_of}
-use Rattle.smt_types.specs.NamedVecs.{attributes-over}
+use Rattle.smt_term.specs.ExtensionView.{plain_extension_op}
+use Rattle.smt_term.specs.PatternView.{plain_ord_pattern}
+use Rattle.law_numbers.specs.BitOperators.{BvaddOp, BvlshrOp, BvmulOp, BvsdivOp, BvshlOp, BvsmodOp, BvsremOp, BvsubOp, BvudivOp, BvuremOp}
+use Rattle.law_numbers.specs.BitOperators.{BvsleOp, BvsltOp, BvuleOp, BvultOp, BvsaddoOp, BvsmuloOp, BvssuboOp}
+use Rattle.law_terms.specs.Plain.{PlainFunction, PlainOp, AndOp, BvnegOp, BvnegoOp, EqOp, ExtOp, IteOp, NotOp, OptionGetOp, OrOp}
+use Rattle.law_terms.specs.Plain.{RecordGetOp, SetInterOp, SetMemberOp, SetSubsetOp, StringLikeOp, UufOp, ZeroExtendOp, PlainLiteral}
+use Rattle.law_terms.specs.Plain.{BitVecLiteral, BoolLiteral, EntityLiteral, ExtensionLiteral, StringLiteral, PlainTerm, Application}
+use Rattle.law_terms.specs.Plain.{NoneTerm, LiteralTerm, RecordTerm, SetTerm, SomeTerm, VariableTerm, PlainFields, no_fields, one_field}
+use Rattle.law_terms.specs.Plain.{PlainTerms, no_terms, one_term, terms, BitsOp, TestOp, OverflowOp, record_fields}
+use Rattle.smt_term.specs.Pairs.{attributes_in, pairs_of}
+use Rattle.smt_term.specs.NamedVecs.{attributes-over}
 use Rattle.smt_term.specs.declared.maps.TermMap.{TermMap}
--- what types say, as in `smt_types`
-unfoldable pub use Rattle.smt_types.specs.View.{plain_type, plain_types}
-pub use Rattle.smt_types.specs.View.{attributes_held, attributes_of, plain_attribute, plain_attributes, plain_type-Option, plain_type-Bitvec, plain_type-Bool, plain_type-Entity, plain_type-Ext, plain_type-String, plain_type-Record, plain_type-Set}
-use Rattle.smt_types.specs.declared.types.TermType.{TermType}
+-- what types say
+unfoldable pub use Rattle.smt_term.specs.TypeView.{plain_type, plain_types}
+pub use Rattle.smt_term.specs.TypeView.{attributes_held, attributes_of, plain_attribute, plain_attributes, plain_type-Option}
+pub use Rattle.smt_term.specs.TypeView.{plain_type-Bitvec, plain_type-Bool, plain_type-Entity, plain_type-Ext, plain_type-String}
+pub use Rattle.smt_term.specs.TypeView.{plain_type-Record, plain_type-Set}
+use Rattle.smt_term.specs.declared.types.TermType.{TermType}
 use Rattle.smt_term.specs.declared.function.Uuf.{Uuf as Function}
 use Rattle.smt_term.specs.declared.op.Op.{Op}
-use Rattle.smt_term.specs.declared.op.Op.TheVariants.{And, Bvadd, Bvlshr, Bvmul, Bvneg, Bvnego, Bvsaddo, Bvsdiv, Bvshl, Bvsle, Bvslt, Bvsmod, Bvsmulo, Bvsrem, Bvssubo, Bvsub, Bvudiv, Bvule, Bvult, Bvurem, Eq, Ext as ExtensionOf, Ite, Not, OptionGet, Or, RecordGet, SetInter, SetMember, SetSubset, StringLike, Uuf, ZeroExtend}
+use Rattle.smt_term.specs.declared.op.Op.TheVariants.{And, Bvadd, Bvlshr, Bvmul, Bvneg, Bvnego, Bvsaddo, Bvsdiv, Bvshl, Bvsle, Bvslt}
+use Rattle.smt_term.specs.declared.op.Op.TheVariants.{Bvsmod, Bvsmulo, Bvsrem, Bvssubo, Bvsub, Bvudiv, Bvule, Bvult, Bvurem, Eq}
+use Rattle.smt_term.specs.declared.op.Op.TheVariants.{Ext as ExtensionOf, Ite, Not, OptionGet, Or, RecordGet, SetInter, SetMember}
+use Rattle.smt_term.specs.declared.op.Op.TheVariants.{SetSubset, StringLike, Uuf, ZeroExtend}
 use Rattle.smt_term.specs.declared.term.TermVar.{TermVar}
 use Rattle.smt_term.specs.declared.term.TermPrim.{TermPrim}
-use Rattle.smt_term.specs.declared.term.TermPrim.TheVariants.{Bitvec as BitsLiteral, Bool as TruthLiteral, Entity as EntityOf, Ext as ValueOf, String as TextLiteral}
-use Rattle.smt_term.specs.declared.term.Term.{Term, App, App', None, Prim, Record, Record', Set, Set', Some, Some', Var, Row_of-Term, end_of-Term, more_of-Term, items-the_row-Term, items_hidden-the_row-Term-0, items_hidden-the_row-Term-1}
+use Rattle.smt_term.specs.declared.term.TermPrim.TheVariants.{Bitvec as BitsLiteral, Bool as TruthLiteral, Entity as EntityOf}
+use Rattle.smt_term.specs.declared.term.TermPrim.TheVariants.{Ext as ValueOf, String as TextLiteral}
+use Rattle.smt_term.specs.declared.term.Term.{Term, App, App', None, Prim, Record, Record', Set, Set', Some, Some', Var, Row_of-Term}
+use Rattle.smt_term.specs.declared.term.Term.{end_of-Term, more_of-Term, items-the_row-Term, items_hidden-the_row-Term-0}
+use Rattle.smt_term.specs.declared.term.Term.{items_hidden-the_row-Term-1}
 use Rattle.smt_term.specs.declared.term.TermList.{TermList}
 use Rattle.smt_term.specs.declared.term.TermSet.{TermSet}
 use Rattle.smt_term.specs.declared.term.Term.TheBlock.{hidden-the_row-Term-0, hidden-the_row-Term-1, shape-the_row-Term-1}
@@ -144,10 +157,12 @@ plain_row-items end_of-Term = refl
 plain_row-items (more_of-Term t rest) = ap (one_term (plain_term t)) (plain_row-items rest)
 
 -- an application says its operator, its arguments in order, and the type that is claimed for it
-pub plain_term-App : (op : Op) (args : TermList) (type : TermType) → plain_term (App op args type) ≡ Application (plain_op op) (terms (plain_items args)) (plain_type type)
+pub plain_term-App : (op : Op) (args : TermList) (type : TermType) →
+    plain_term (App op args type) ≡ Application (plain_op op) (terms (plain_items args)) (plain_type type)
 unfolding plain_term plain_row
 plain_term-App op args type =
-    ap (λ ts. Application (plain_op op) ts (plain_type type)) (plain_row-items (hidden-the_row-Term-0 args.items.value) ∙ ap (λ l. terms (map plain_term l)) (items_hidden-the_row-Term-0 args.items.value))
+    ap (λ ts. Application (plain_op op) ts (plain_type type)) (plain_row-items (hidden-the_row-Term-0 args.items.value)
+    ∙ ap (λ l. terms (map plain_term l)) (items_hidden-the_row-Term-0 args.items.value))
 
 -- none says the type that the option would have inside
 pub plain_term-None : (type : TermType) → plain_term (None type) ≡ NoneTerm (plain_type type)
@@ -159,7 +174,8 @@ pub plain_term-Prim : (literal : TermPrim) → plain_term (Prim literal) ≡ Lit
 unfolding plain_term
 plain_term-Prim literal = refl
 
-terms_named : {m : _} (ns : List (List ℕ)) (row : Row_of-Term m) → plain_named ns row ≡ record_fields (zip ns (map plain_term (items-the_row-Term m row)))
+terms_named : {m : _} (ns : List (List ℕ)) (row : Row_of-Term m) →
+    plain_named ns row ≡ record_fields (zip ns (map plain_term (items-the_row-Term m row)))
 unfolding plain_named
 terms_named [] row = refl
 terms_named (n ∷ ns) end_of-Term = refl
@@ -174,15 +190,19 @@ pub plain_term-Record : (m : TermMap) → plain_term (Record m) ≡ RecordTerm (
 unfolding plain_term shape-the_row-Term-1
 plain_term-Record m =
     ap RecordTerm (terms_named (attributes_of (shape-the_row-Term-1 m.pairs)) (hidden-the_row-Term-1 m.pairs)
-    ∙ ap (λ ts. record_fields (zip (attributes_of (shape-the_row-Term-1 m.pairs)) (map plain_term ts))) (items_hidden-the_row-Term-1 m.pairs)
-    ∙ ap (λ ns. record_fields (zip ns (map plain_term (map (λ p. p.1) m.pairs.items.value.items)))) (attributes-over (λ _. tt) m.pairs.items.value.items)
+    ∙ ap (λ ts. record_fields (zip (attributes_of (shape-the_row-Term-1 m.pairs)) (map plain_term ts)))
+    (items_hidden-the_row-Term-1 m.pairs)
+    ∙ ap (λ ns. record_fields (zip ns (map plain_term (map (λ p. p.1) m.pairs.items.value.items))))
+    (attributes-over (λ _. tt) m.pairs.items.value.items)
     ∙ ap record_fields (fields-zipped m.pairs.items.value.items))
 
 -- a set says the type of its elements, and its elements in order
-pub plain_term-Set : (element : TermType) (ts : TermSet) → plain_term (Set element ts) ≡ SetTerm (plain_type element) (terms (plain_elements ts))
+pub plain_term-Set : (element : TermType) (ts : TermSet) →
+    plain_term (Set element ts) ≡ SetTerm (plain_type element) (terms (plain_elements ts))
 unfolding plain_term plain_row
 plain_term-Set element ts =
-    ap (SetTerm (plain_type element)) (plain_row-items (hidden-the_row-Term-0 ts.items.value) ∙ ap (λ l. terms (map plain_term l)) (items_hidden-the_row-Term-0 ts.items.value))
+    ap (SetTerm (plain_type element)) (plain_row-items (hidden-the_row-Term-0 ts.items.value)
+    ∙ ap (λ l. terms (map plain_term l)) (items_hidden-the_row-Term-0 ts.items.value))
 
 -- some says what its term says, as an option
 pub plain_term-Some : (t : Rc Term Global) → plain_term (Some t) ≡ SomeTerm (plain_term t.value)
@@ -195,4 +215,28 @@ unfolding plain_term
 plain_term-Var v = refl
 
 -- the equations of types and of terms together, for proofs that rewrite with them
-pub ruleset views = (plain_type-Option, plain_type-Bitvec, plain_type-Bool, plain_type-Entity, plain_type-Ext, plain_type-String, plain_type-Record, plain_type-Set, plain_term-App, plain_term-None, plain_term-Prim, plain_term-Record, plain_term-Set, plain_term-Some, plain_term-Var)
+pub ruleset views = (
+  plain_type-Option,
+  plain_type-Bitvec,
+  plain_type-Bool,
+  plain_type-Entity,
+  plain_type-Ext,
+  plain_type-String,
+  plain_type-Record,
+  plain_type-Set,
+  plain_term-App,
+  plain_term-None,
+  plain_term-Prim,
+  plain_term-Record,
+  plain_term-Set,
+  plain_term-Some,
+  plain_term-Var,
+)
+
+-- what terms of the program say, in order
+abbrev pub plain_terms : List Term → List PlainTerm
+plain_terms ts = map plain_term ts
+
+-- On Ok a term was built that says this.
+abbrev pub BuildsTerm : {E : Type 0} → Result Term E → PlainTerm → Type 0
+BuildsTerm result u = IfOk result (λ t. plain_term t ≡ u)

@@ -1,9 +1,10 @@
+#![tactic(auto, using(crate::specs::View::views), unfolding(crate::specs::TypeView::plain_type, crate::specs::View::plain_term))]
 // Uninterpreted functions of one argument.
 ghost use Rattle.std.specs.Prelude.{◌≡◌, IfOk};
 ghost use Rattle.smt_term.specs.View.{plain_function};
 
+use crate::{TermError, TermType};
 use smt_text::{Text, share_text};
-use smt_types::{TermError, TermType};
 
 /// An uninterpreted function: its id and its types. Two functions of one id and different types are different. Functions order
 /// by their fields as declared.

@@ -3,8 +3,17 @@
 #![tactic(auto, using(crate::specs::View::views))]
 
 ghost use Rattle.smt_term.specs.Maps.{FieldPairsAreSorted, TypePairsAreSorted};
-ghost use Rattle.smt_term.specs.Program.{EqualFunctionsSayTheSame, EqualListsSayTheSame, EqualLiteralsSayTheSame, EqualOperatorsSayTheSame, EqualSetsSayTheSame, EqualTermsSayTheSame, EqualTypesSayTheSame, EqualVariablesSayTheSame, FunctionsCompareAsPlain, ListsCompareAsPlain, LiteralsCompareAsPlain, OperatorsCompareAsPlain, SetsCompareAsPlain, TermMapsAreOrdered, TermsAreFormed, TermsCompareAsPlain, TypesCompareAsPlain, VariablesCompareAsPlain};
-ghost use Rattle.smt_term.specs.Orders.{DefinitionsAreOrdered, FunctionsAreOrdered, TermTablesAreOrdered};
+ghost use Rattle.smt_term.specs.Program.{EqualFunctionsSayTheSame, EqualListsSayTheSame};
+ghost use Rattle.smt_term.specs.Program.{EqualLiteralsSayTheSame, EqualOperatorsSayTheSame};
+ghost use Rattle.smt_term.specs.Program.{EqualSetsSayTheSame, EqualTermsSayTheSame};
+ghost use Rattle.smt_term.specs.Program.{EqualTypesSayTheSame, EqualVariablesSayTheSame};
+ghost use Rattle.smt_term.specs.Program.{FunctionsCompareAsPlain, ListsCompareAsPlain};
+ghost use Rattle.smt_term.specs.Program.{LiteralsCompareAsPlain, OperatorsCompareAsPlain};
+ghost use Rattle.smt_term.specs.Program.{SetsCompareAsPlain, TermMapsAreOrdered, TermsAreFormed};
+ghost use Rattle.smt_term.specs.Program.{TermsCompareAsPlain, TypesCompareAsPlain};
+ghost use Rattle.smt_term.specs.Program.{VariablesCompareAsPlain};
+ghost use Rattle.smt_term.specs.Orders.{DefinitionsAreOrdered, FunctionsAreOrdered};
+ghost use Rattle.smt_term.specs.Orders.{TermTablesAreOrdered};
 ghost use Rattle.smt_term.specs.Tables.{TermPairsAreSorted, TermTablesAscend};
 
 /// What the program's terms and types keep.

@@ -1,15 +1,16 @@
+#![tactic(auto, using(crate::specs::View::views), unfolding(crate::specs::TypeView::plain_type, crate::specs::View::plain_term))]
 // Maps of attributes and their terms.
 ghost use Rattle.std.specs.Prelude.{◌≡◌, ◌↔◌, [], IfOk, IsTrue, bytes_eq, length, map, option_map};
 ghost use Rattle.std.specs.Map.{lookup};
 ghost use Rattle.std.specs.Rc.{rc_str_bytes};
 ghost use Rattle.law_terms.specs.ValueOrder.{text_cmp};
 ghost use Rattle.smt_term.specs.Maps.{plain_field, plain_fields};
-ghost use Rattle.smt_types.specs.SortedPairs.{sorted_pairs};
+ghost use Rattle.smt_term.specs.SortedPairs.{sorted_pairs};
 ghost use Rattle.smt_term.specs.View.{fields_of, plain_term};
 
 use crate::term::Term;
+use crate::{Attr, AttributePairs, TermError};
 use smt_text::share_text;
-use smt_types::{Attr, AttributePairs, TermError};
 use std::alloc::Global;
 use std::collections::BTreeMap;
 
@@ -26,7 +27,8 @@ impl TermMap {
     /// # Errors
     /// `Memory`, where there is none for the map.
     pub fn new(alloc: Global, items: &[(Attr, Term)]) -> Result<TermMap, TermError>
-        ensures { IfOk result (λ made. plain_fields made ≡ sorted_pairs text_cmp (map plain_field items.now)) }
+        ensures { IfOk result
+            (λ made. plain_fields made ≡ sorted_pairs text_cmp (map plain_field items.now)) }
     {
         let pairs = TermMap::in_order(alloc, items)?;
         Ok(TermMap {
@@ -36,7 +38,8 @@ impl TermMap {
 
     // The pairs in the order of their attributes; of pairs of one attribute the last stays.
     fn in_order(alloc: Global, items: &[(Attr, Term)]) -> Result<Vec<(Attr, Term)>, TermError>
-        ensures { IfOk result (λ pairs. map plain_field pairs.items ≡ sorted_pairs text_cmp (map plain_field items.now)) }
+        ensures { IfOk result (λ pairs.
+            map plain_field pairs.items ≡ sorted_pairs text_cmp (map plain_field items.now)) }
     {
         let mut found = BTreeMap::new(alloc);
         for (name, term) in items {
@@ -69,7 +72,8 @@ impl TermMap {
 
     /// The term of an attribute, or `None` exactly where the map does not have it.
     pub fn get(&self, key: &Attr) -> Option<&Term>
-        ensures { option_map (λ term. plain_term term.now) result ≡ lookup (bytes_eq (rc_str_bytes key.now)) (plain_fields self.now) }
+        ensures { option_map (λ term. plain_term term.now) result
+            ≡ lookup (bytes_eq (rc_str_bytes key.now)) (plain_fields self.now) }
     {
         for (name, term) in self.pairs.items() {
             if key == name {

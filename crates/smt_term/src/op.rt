@@ -1,3 +1,4 @@
+#![tactic(auto, using(crate::specs::View::views), unfolding(crate::specs::TypeView::plain_type, crate::specs::View::plain_term))]
 // The operators of applications.
 ghost use Rattle.std.specs.Prelude.{◌≡◌, IfOk};
 ghost use Rattle.law_terms.specs.Names.{op_name};
@@ -5,8 +6,8 @@ ghost use Rattle.smt_term.specs.OpClass.{class_of};
 ghost use Rattle.smt_term.specs.View.{plain_op};
 
 use crate::function::Uuf;
+use crate::{Attr, ExtOp, OrdPattern, TermError};
 use smt_text::share_text;
-use smt_types::{Attr, ExtOp, OrdPattern, TermError};
 use std::rc::Rc;
 
 /// An operator: of the theories Core, FixedSizeBitVectors and UnicodeStrings, of the logic QF_BV, of the extension types, of

@@ -6,19 +6,22 @@ ghost use Rattle.std.specs.Fmt.{WritesOnOk};
 ghost use Rattle.std.specs.List.{flat_map};
 ghost use Rattle.std.specs.Str.{chars};
 ghost use Rattle.smt_ext.specs.ExtOrder.{plain_value};
-ghost use Rattle.smt_types.specs.Entities.{bytes_of_id, bytes_of_type};
-ghost use Rattle.smt_types.specs.PatternView.{plain_part};
+ghost use Rattle.smt_term.specs.Entities.{bytes_of_id, bytes_of_type};
+ghost use Rattle.smt_term.specs.PatternView.{plain_part};
 ghost use Rattle.law_terms.specs.Plain.{terms, record_fields};
 ghost use Rattle.smt_term.specs.Maps.{plain_fields};
-ghost use Rattle.smt_term.specs.Printed.{application_text, character_text, entity_text, extension_text, field_texts, literal_text, part_text, printed_name, record_text, term_text, term_texts};
+ghost use Rattle.smt_term.specs.Printed.{application_text, character_text, entity_text};
+ghost use Rattle.smt_term.specs.Printed.{extension_text, field_texts, literal_text};
+ghost use Rattle.smt_term.specs.Printed.{part_text, printed_name, record_text, term_text};
+ghost use Rattle.smt_term.specs.Printed.{term_texts};
 ghost use Rattle.law_texts.specs.LineTexts.{comma_separated};
-ghost use Rattle.smt_term.specs.View.{plain_literal, plain_op, plain_term};
+ghost use Rattle.smt_term.specs.View.{plain_literal, plain_op, plain_term, plain_terms};
 
 use crate::maps::TermMap;
 use crate::op::Op;
 use crate::term::{Term, TermPrim};
+use crate::{EntityUID, PatternElem};
 use smt_ext::Ext;
-use smt_types::{EntityUID, PatternElem};
 use std::fmt;
 
 /// A truth value as `true` or `false`, a bitvector as `(bv64 12)`, an entity as `T::"id"`, a string between quotes, and a
@@ -86,7 +89,8 @@ fn put_character<W: fmt::Write>(c: char, f: &mut fmt::Formatter<W>) -> fmt::Resu
 
 // The characters of an id.
 fn put_id<W: fmt::Write>(id: &str, f: &mut fmt::Formatter<W>) -> fmt::Result
-    ensures { WritesOnOk W.write_str_gives f.old result (flat_map character_text (chars id.now)) f.new }
+    ensures { WritesOnOk W.write_str_gives f.old result (flat_map character_text (chars id.now))
+        f.new }
 {
     for c in id.chars() {
         put_character(c, f)?;
@@ -96,7 +100,8 @@ fn put_id<W: fmt::Write>(id: &str, f: &mut fmt::Formatter<W>) -> fmt::Result
 
 // `T::"id"`.
 fn put_entity<W: fmt::Write>(entity: &EntityUID, f: &mut fmt::Formatter<W>) -> fmt::Result
-    ensures { WritesOnOk W.write_str_gives f.old result (entity_text (bytes_of_type entity.now.ety) (bytes_of_id entity.now.id)) f.new }
+    ensures { WritesOnOk W.write_str_gives f.old result
+        (entity_text (bytes_of_type entity.now.ety) (bytes_of_id entity.now.id)) f.new }
 {
     f.write_str(entity.ety.0.as_str())?;
     f.write_str("::\"")?;
@@ -106,7 +111,8 @@ fn put_entity<W: fmt::Write>(entity: &EntityUID, f: &mut fmt::Formatter<W>) -> f
 
 // `decimal("0.1000")`, `ip("10.0.0.0/8")`, `duration("5ms")`, `datetime("1970-01-01").offset(duration("5ms"))`.
 fn put_extension<W: fmt::Write>(value: &Ext, f: &mut fmt::Formatter<W>) -> fmt::Result
-    ensures { WritesOnOk W.write_str_gives f.old result (extension_text (plain_value value.now)) f.new }
+    ensures { WritesOnOk W.write_str_gives f.old result (extension_text (plain_value value.now))
+        f.new }
 {
     match value {
         Ext::Decimal { d } => write!(f, "decimal(\"{d}\")"),
@@ -138,7 +144,8 @@ fn put_part<W: fmt::Write>(part: PatternElem, f: &mut fmt::Formatter<W>) -> fmt:
 
 // The elements of a pattern.
 fn put_parts<W: fmt::Write>(parts: &[PatternElem], f: &mut fmt::Formatter<W>) -> fmt::Result
-    ensures { WritesOnOk W.write_str_gives f.old result (flat_map part_text (map plain_part parts.now)) f.new }
+    ensures { WritesOnOk W.write_str_gives f.old result
+        (flat_map part_text (map plain_part parts.now)) f.new }
 {
     for part in parts {
         put_part(*part, f)?;
@@ -183,7 +190,10 @@ fn put_term<W: fmt::Write>(term: &Term, f: &mut fmt::Formatter<W>) -> fmt::Resul
 // `name(a, b)`.
 #[cycle(print)]
 fn put_application<W: fmt::Write>(op: &Op, args: &[Term], f: &mut fmt::Formatter<W>) -> fmt::Result
-    ensures { WritesOnOk W.write_str_gives f.old result (application_text (printed_name (plain_op op.now)) (term_texts (terms (map plain_term args.now)))) f.new }
+    ensures { WritesOnOk W.write_str_gives f.old result
+        (application_text (printed_name (plain_op op.now))
+        (term_texts (terms (plain_terms args.now))))
+        f.new }
 {
     put_name(op, f)?;
     f.write_str("(")?;
@@ -194,7 +204,8 @@ fn put_application<W: fmt::Write>(op: &Op, args: &[Term], f: &mut fmt::Formatter
 // `Some(a)`.
 #[cycle(print)]
 fn put_some<W: fmt::Write>(inner: &Term, f: &mut fmt::Formatter<W>) -> fmt::Result
-    ensures { WritesOnOk W.write_str_gives f.old result (codes "Some(" ++ (term_text (plain_term inner.now) ++ codes ")")) f.new }
+    ensures { WritesOnOk W.write_str_gives f.old result
+        (codes "Some(" ++ (term_text (plain_term inner.now) ++ codes ")")) f.new }
 {
     f.write_str("Some(")?;
     put_term(inner, f)?;
@@ -204,7 +215,9 @@ fn put_some<W: fmt::Write>(inner: &Term, f: &mut fmt::Formatter<W>) -> fmt::Resu
 // `[a, b]`.
 #[cycle(print)]
 fn put_set<W: fmt::Write>(elts: &[Term], f: &mut fmt::Formatter<W>) -> fmt::Result
-    ensures { WritesOnOk W.write_str_gives f.old result (codes "[" ++ (comma_separated (term_texts (terms (map plain_term elts.now))) ++ codes "]")) f.new }
+    ensures { WritesOnOk W.write_str_gives f.old result
+        (codes "[" ++ (comma_separated (term_texts (terms (plain_terms elts.now))) ++ codes "]"))
+        f.new }
 {
     f.write_str("[")?;
     put_terms(elts, f)?;
@@ -214,7 +227,8 @@ fn put_set<W: fmt::Write>(elts: &[Term], f: &mut fmt::Formatter<W>) -> fmt::Resu
 // `a, b`.
 #[cycle(print)]
 fn put_terms<W: fmt::Write>(items: &[Term], f: &mut fmt::Formatter<W>) -> fmt::Result
-    ensures { WritesOnOk W.write_str_gives f.old result (comma_separated (term_texts (terms (map plain_term items.now)))) f.new }
+    ensures { WritesOnOk W.write_str_gives f.old result
+        (comma_separated (term_texts (terms (plain_terms items.now)))) f.new }
 {
     let mut gap = "";
     for item in items {
@@ -228,7 +242,8 @@ fn put_terms<W: fmt::Write>(items: &[Term], f: &mut fmt::Formatter<W>) -> fmt::R
 // `{ x: a, y: b }`, or `{}`.
 #[cycle(print)]
 fn put_record<W: fmt::Write>(fields: &TermMap, f: &mut fmt::Formatter<W>) -> fmt::Result
-    ensures { WritesOnOk W.write_str_gives f.old result (record_text (field_texts (record_fields (plain_fields fields.now)))) f.new }
+    ensures { WritesOnOk W.write_str_gives f.old result
+        (record_text (field_texts (record_fields (plain_fields fields.now)))) f.new }
 {
     if fields.is_empty() {
         return f.write_str("{}");
@@ -241,7 +256,8 @@ fn put_record<W: fmt::Write>(fields: &TermMap, f: &mut fmt::Formatter<W>) -> fmt
 // `x: a, y: b`.
 #[cycle(print)]
 fn put_fields<W: fmt::Write>(fields: &TermMap, f: &mut fmt::Formatter<W>) -> fmt::Result
-    ensures { WritesOnOk W.write_str_gives f.old result (comma_separated (field_texts (record_fields (plain_fields fields.now)))) f.new }
+    ensures { WritesOnOk W.write_str_gives f.old result
+        (comma_separated (field_texts (record_fields (plain_fields fields.now)))) f.new }
 {
     let pairs = fields.items();
     let mut before = "";

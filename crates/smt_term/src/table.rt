@@ -7,8 +7,7 @@ ghost use Rattle.law_terms.specs.TermOrder.{term_cmp, term_eq};
 ghost use Rattle.law_terms.specs.ValueOrder.{ascends};
 ghost use Rattle.smt_term.specs.View.{plain_term};
 
-use crate::Term;
-use smt_types::TermError;
+use crate::{Term, TermError};
 use std::alloc::Global;
 use std::collections::BTreeMap;
 use std::rc::Rc;
@@ -22,14 +21,15 @@ pub struct TermTable {
 
 impl TermTable {
     ghost use Rattle.smt_term.specs.Tables.{plain_entries, plain_entry};
-    ghost use Rattle.smt_types.specs.SortedPairs.{sorted_pairs};
+    ghost use Rattle.smt_term.specs.SortedPairs.{sorted_pairs};
 
     /// The table of these pairs, which it sorts by their keys; of pairs of one key the last stays.
     ///
     /// # Errors
     /// `Memory`, where there is none for the table.
     pub fn new(alloc: Global, items: &[(Term, Term)]) -> Result<TermTable, TermError>
-        ensures { IfOk result (λ made. plain_entries made ≡ sorted_pairs term_cmp (map plain_entry items.now)) }
+        ensures { IfOk result
+            (λ made. plain_entries made ≡ sorted_pairs term_cmp (map plain_entry items.now)) }
     {
         let pairs = TermTable::in_order(alloc, items)?;
         Ok(TermTable {
@@ -39,7 +39,8 @@ impl TermTable {
 
     // The pairs in the order of their keys; of pairs of one key the last stays.
     fn in_order(alloc: Global, items: &[(Term, Term)]) -> Result<Vec<(Term, Term)>, TermError>
-        ensures { IfOk result (λ pairs. map plain_entry pairs.items ≡ sorted_pairs term_cmp (map plain_entry items.now)) }
+        ensures { IfOk result (λ pairs.
+            map plain_entry pairs.items ≡ sorted_pairs term_cmp (map plain_entry items.now)) }
     {
         let mut found = BTreeMap::new(alloc);
         for (argument, value) in items {
@@ -71,7 +72,8 @@ impl TermTable {
 
     /// The term of a key, or `None` exactly where the table does not have it.
     pub fn get(&self, key: &Term) -> Option<&Term>
-        ensures { option_map (λ value. plain_term value.now) result ≡ lookup (term_eq (plain_term key.now)) (plain_entries self.now) }
+        ensures { option_map (λ value. plain_term value.now) result
+            ≡ lookup (term_eq (plain_term key.now)) (plain_entries self.now) }
     {
         for (argument, value) in self.items.as_slice() {
             if key == argument {

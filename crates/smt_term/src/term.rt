@@ -1,14 +1,17 @@
+#![tactic(auto, using(crate::specs::View::views), unfolding(crate::specs::TypeView::plain_type, crate::specs::View::plain_term))]
 // Terms and lists of terms.
 ghost use Rattle.std.specs.Prelude.{◌≡◌, ◌↔◌, [], IfOk, IsTrue, length, map};
 ghost use Rattle.law_terms.specs.TermSets.{sorted_terms};
-ghost use Rattle.smt_term.specs.View.{elements_of, items_of, plain_elements, plain_items, plain_literal, plain_term, plain_variable};
+ghost use Rattle.smt_term.specs.View.{BuildsTerm, elements_of, items_of, plain_elements};
+ghost use Rattle.smt_term.specs.View.{plain_items, plain_literal, plain_term};
+ghost use Rattle.smt_term.specs.View.{plain_terms, plain_variable};
 
 use crate::maps::TermMap;
 use crate::op::Op;
+use crate::{EntityUID, TermError, TermType};
 use smt_bits::{BitVec, SIXTY_FOUR};
 use smt_ext::Ext;
 use smt_text::{Text, share_text};
-use smt_types::{EntityUID, TermError, TermType};
 use std::alloc::Global;
 use std::collections::BTreeSet;
 use std::rc::Rc;
@@ -124,7 +127,7 @@ impl TermList {
     /// # Errors
     /// `Memory`, where there is none for the list.
     pub fn new(alloc: Global, items: &[Term]) -> Result<TermList, TermError>
-        ensures { IfOk result (λ list. plain_items list ≡ map plain_term items.now) }
+        ensures { IfOk result (λ list. plain_items list ≡ plain_terms items.now) }
     {
         let mut all = Vec::with_capacity(alloc, items.len())?;
         for item in items {
@@ -140,7 +143,8 @@ impl TermList {
     /// # Errors
     /// `Memory`, where there is none for the list.
     pub fn of_references(alloc: Global, items: &[&Term]) -> Result<TermList, TermError>
-        ensures { IfOk result (λ list. plain_items list ≡ map (λ item. plain_term item.now) items.now) }
+        ensures { IfOk result
+            (λ list. plain_items list ≡ map (λ item. plain_term item.now) items.now) }
     {
         let mut all = Vec::with_capacity(alloc, items.len())?;
         for item in items {
@@ -168,7 +172,7 @@ impl TermList {
     /// The terms, in order.
     pub fn items(&self) -> &[Term]
         ensures same { result.now ≡ items_of self.now }
-        ensures plain { map plain_term result.now ≡ plain_items self.now }
+        ensures plain { plain_terms result.now ≡ plain_items self.now }
     {
         self.items.as_slice()
     }
@@ -199,7 +203,7 @@ impl TermSet {
     /// # Errors
     /// `Memory`, where there is none for the set.
     pub fn new(alloc: Global, items: &[Term]) -> Result<TermSet, TermError>
-        ensures { IfOk result (λ set. plain_elements set ≡ sorted_terms (map plain_term items.now)) }
+        ensures { IfOk result (λ set. plain_elements set ≡ sorted_terms (plain_terms items.now)) }
     {
         let mut found = BTreeSet::new(alloc);
         for item in items {
@@ -228,7 +232,7 @@ impl TermSet {
     /// The elements, in order.
     pub fn items(&self) -> &[Term]
         ensures same { result.now ≡ elements_of self.now }
-        ensures plain { map plain_term result.now ≡ plain_elements self.now }
+        ensures plain { plain_terms result.now ≡ plain_elements self.now }
     {
         self.items.as_slice()
     }
@@ -297,7 +301,7 @@ impl Term {
     /// `Memory`, where there is none for the term.
     #[tactic(auto, using(crate::specs::View::views))]
     pub fn share(&self) -> Result<Term, TermError>
-        ensures { IfOk result (λ term. plain_term term ≡ plain_term self.now) }
+        ensures { BuildsTerm result (plain_term self.now) }
     {
         match self {
             Term::App { op, args, ret_ty } => Ok(Term::App {
@@ -336,7 +340,8 @@ impl From<i64> for Term {
     ghost use Rattle.law_terms.specs.Plain.{BitVecLiteral, LiteralTerm};
     ghost use Rattle.smt_term.specs.View.{plain_term};
 
-    ghost from_gives = { λ number term. plain_term term ≡ LiteralTerm (BitVecLiteral 64 (bits_of 64 number)) };
+    ghost from_gives = { λ number term.
+        plain_term term ≡ LiteralTerm (BitVecLiteral 64 (bits_of 64 number)) };
 
     fn from(number: i64) -> Term {
         Term::from(BitVec::of_int(SIXTY_FOUR, i128::from(number)))
@@ -349,7 +354,8 @@ impl From<BitVec> for Term {
     ghost use Rattle.law_terms.specs.Plain.{BitVecLiteral, LiteralTerm};
     ghost use Rattle.smt_term.specs.View.{plain_term};
 
-    ghost from_gives = { λ bits term. plain_term term ≡ LiteralTerm (BitVecLiteral (width_of bits) (number_of bits)) };
+    ghost from_gives = { λ bits term.
+        plain_term term ≡ LiteralTerm (BitVecLiteral (width_of bits) (number_of bits)) };
 
     fn from(bits: BitVec) -> Term {
         Term::Prim(TermPrim::Bitvec(bits))
@@ -359,10 +365,12 @@ impl From<BitVec> for Term {
 impl From<EntityUID> for Term {
     ghost use Rattle.std.specs.Prelude.{◌≡◌};
     ghost use Rattle.law_terms.specs.Plain.{EntityLiteral, LiteralTerm};
-    ghost use Rattle.smt_types.specs.Entities.{bytes_of_id, bytes_of_type};
+    ghost use Rattle.smt_term.specs.Entities.{bytes_of_id, bytes_of_type};
     ghost use Rattle.smt_term.specs.View.{plain_term};
 
-    ghost from_gives = { λ entity term. plain_term term ≡ LiteralTerm (EntityLiteral (bytes_of_type entity.ety) (bytes_of_id entity.id)) };
+    ghost from_gives = { λ entity term.
+        plain_term term
+        ≡ LiteralTerm (EntityLiteral (bytes_of_type entity.ety) (bytes_of_id entity.id)) };
 
     fn from(entity: EntityUID) -> Term {
         Term::Prim(TermPrim::Entity(entity))
@@ -375,7 +383,8 @@ impl From<Ext> for Term {
     ghost use Rattle.law_terms.specs.Plain.{ExtensionLiteral, LiteralTerm};
     ghost use Rattle.smt_term.specs.View.{plain_term};
 
-    ghost from_gives = { λ value term. plain_term term ≡ LiteralTerm (ExtensionLiteral (plain_value value)) };
+    ghost from_gives = { λ value term.
+        plain_term term ≡ LiteralTerm (ExtensionLiteral (plain_value value)) };
 
     fn from(value: Ext) -> Term {
         Term::Prim(TermPrim::Ext(value))
@@ -388,7 +397,8 @@ impl From<Text> for Term {
     ghost use Rattle.law_terms.specs.Plain.{LiteralTerm, StringLiteral};
     ghost use Rattle.smt_term.specs.View.{plain_term};
 
-    ghost from_gives = { λ text term. plain_term term ≡ LiteralTerm (StringLiteral (rc_str_bytes text)) };
+    ghost from_gives = { λ text term.
+        plain_term term ≡ LiteralTerm (StringLiteral (rc_str_bytes text)) };
 
     fn from(text: Text) -> Term {
         Term::Prim(TermPrim::String(text))

@@ -1,24 +1,30 @@
+#![tactic(auto, using(crate::specs::View::views), unfolding(crate::specs::TypeView::plain_type, crate::specs::View::plain_term))]
 // The types of terms, and which terms are typed.
-ghost use Rattle.std.specs.Prelude.{◌≡◌, ◌↔◌, ◌∷◌, [], IfOk, IsTrue, bytes_eq, is_some, map, option_map};
+ghost use Rattle.std.specs.Prelude.{◌≡◌, ◌↔◌, ◌∷◌, [], IsTrue, bytes_eq, is_some, map, option_map};
 ghost use Rattle.std.specs.List.{list_all};
 ghost use Rattle.std.specs.Rc.{rc_str_bytes};
 ghost use Rattle.smt_bits.specs.Width.{bits_in};
 ghost use Rattle.law_terms.specs.Literals.{is_literal};
-ghost use Rattle.law_terms.specs.Plain.{EntityType as EntityTypeOf, OptionType, RecordType, SetType, attribute_types, record_fields};
+ghost use Rattle.law_terms.specs.Plain.{EntityType as EntityTypeOf, OptionType, RecordType};
+ghost use Rattle.law_terms.specs.Plain.{SetType, attribute_types, record_fields};
 ghost use Rattle.law_terms.specs.TermOrder.{term_cmp};
-ghost use Rattle.law_terms.specs.Types.{attribute_type, extended_type, extension_signature, field_types, inner_type, is_set, is_type, literal_type, result_type, type_eq, type_of, width_in};
+ghost use Rattle.law_terms.specs.Types.{attribute_type, extended_type, extension_signature};
+ghost use Rattle.law_terms.specs.Types.{field_types, inner_type, is_set, is_type};
+ghost use Rattle.law_terms.specs.Types.{literal_type, result_type, type_eq, type_of, width_in};
 ghost use Rattle.law_terms.specs.Typing.{Typed, typed};
 ghost use Rattle.law_terms.specs.ValueOrder.{ascends, is_below};
-ghost use Rattle.smt_types.specs.Entities.{bytes_of_type};
-ghost use Rattle.smt_types.specs.ExtensionView.{plain_extension_op};
-ghost use Rattle.smt_term.specs.View.{plain_attributes, plain_fields, plain_literal, plain_op, plain_term, plain_type};
+ghost use Rattle.smt_term.specs.Entities.{bytes_of_type};
+ghost use Rattle.smt_term.specs.ExtensionView.{plain_extension_op};
+ghost use Rattle.smt_term.specs.View.{plain_attributes, plain_fields, plain_literal, plain_op};
+ghost use Rattle.smt_term.specs.View.{plain_term, plain_terms, plain_type};
+ghost use Rattle.smt_term.specs.TypeView.{BuildsType};
 
 use crate::maps::TermMap;
 use crate::op::{Op, OpClass};
 use crate::term::{Term, TermPrim};
+use crate::{Attr, EntityType, ExtOp, ExtType, TermError, TermType, TypeMap};
 use smt_bits::{FIVE, HUNDRED_TWENTY_EIGHT, SEVEN, SIXTY_FOUR, THIRTY_TWO, Width};
 use smt_text::share_text;
-use smt_types::{Attr, EntityType, ExtOp, ExtType, TermError, TermType, TypeMap};
 use std::alloc::Global;
 
 impl TermPrim {
@@ -27,7 +33,7 @@ impl TermPrim {
     /// # Errors
     /// `Memory`, where there is none for the type.
     pub fn type_of(&self) -> Result<TermType, TermError>
-        ensures { IfOk result (λ ty. plain_type ty ≡ literal_type (plain_literal self.now)) }
+        ensures { BuildsType result (literal_type (plain_literal self.now)) }
     {
         match self {
             TermPrim::Bitvec(bits) => Ok(TermType::Bitvec { n: bits.width() }),
@@ -55,8 +61,10 @@ impl TermPrim {
 
     // Whether this is the literal's type.
     fn is_of_type(&self, ty: &TermType) -> bool
-        ensures same { result ≡ type_eq (literal_type (plain_literal self.now)) (plain_type ty.now) }
-        ensures turned { result ≡ type_eq (plain_type ty.now) (literal_type (plain_literal self.now)) }
+        ensures same { result
+            ≡ type_eq (literal_type (plain_literal self.now)) (plain_type ty.now) }
+        ensures turned { result
+            ≡ type_eq (plain_type ty.now) (literal_type (plain_literal self.now)) }
     {
         match self {
             TermPrim::Bitvec(bits) => TermType::Bitvec { n: bits.width() }.is_same_as(ty),
@@ -72,7 +80,9 @@ impl TermPrim {
 
     // Whether it is an entity of this type.
     fn is_entity_of(&self, ety: &EntityType) -> bool
-        ensures { result ≡ type_eq (EntityTypeOf (bytes_of_type ety.now)) (literal_type (plain_literal self.now)) }
+        ensures { result
+            ≡ type_eq (EntityTypeOf (bytes_of_type ety.now))
+            (literal_type (plain_literal self.now)) }
     {
         match self {
             TermPrim::Entity(entity) => *ety == entity.ety,
@@ -98,7 +108,7 @@ impl Term {
     /// # Errors
     /// `Memory`, where there is none for the type.
     pub fn type_of(&self, alloc: Global) -> Result<TermType, TermError>
-        ensures { IfOk result (λ ty. plain_type ty ≡ type_of (plain_term self.now)) }
+        ensures { BuildsType result (type_of (plain_term self.now)) }
     {
         match self {
             Term::App { ret_ty, .. } => Ok(ret_ty.share()?),
@@ -277,7 +287,8 @@ impl Term {
 
     // Whether the type is that of options of the term's type.
     fn is_inside(&self, option: &TermType) -> bool
-        ensures { result ≡ type_eq (OptionType (type_of (plain_term self.now))) (plain_type option.now) }
+        ensures { result
+            ≡ type_eq (OptionType (type_of (plain_term self.now))) (plain_type option.now) }
     {
         match option {
             TermType::Option { ty } => self.is_of_type(ty),
@@ -293,7 +304,8 @@ impl Term {
 
     // Whether it is an option of values of this type.
     fn is_option_of(&self, inner: &TermType) -> bool
-        ensures { result ≡ is_type (inner_type (type_of (plain_term self.now))) (plain_type inner.now) }
+        ensures { result
+            ≡ is_type (inner_type (type_of (plain_term self.now))) (plain_type inner.now) }
     {
         match self {
             Term::App { ret_ty, .. } => ret_ty.is_option_of(inner),
@@ -306,7 +318,8 @@ impl Term {
 
     // Whether it is a record with this attribute.
     fn has_attribute(&self, name: &Attr) -> bool
-        ensures { result ≡ is_some (attribute_type (rc_str_bytes name.now) (type_of (plain_term self.now))) }
+        ensures { result
+            ≡ is_some (attribute_type (rc_str_bytes name.now) (type_of (plain_term self.now))) }
     {
         match self {
             Term::App { ret_ty, .. } => ret_ty.has_attribute(name),
@@ -318,7 +331,9 @@ impl Term {
 
     // Whether it is a record with this attribute, of this type.
     fn has_attribute_of(&self, name: &Attr, ty: &TermType) -> bool
-        ensures { result ≡ is_type (attribute_type (rc_str_bytes name.now) (type_of (plain_term self.now))) (plain_type ty.now) }
+        ensures { result
+            ≡ is_type (attribute_type (rc_str_bytes name.now) (type_of (plain_term self.now)))
+            (plain_type ty.now) }
     {
         match self {
             Term::App { ret_ty, .. } => ret_ty.has_attribute_of(name, ty),
@@ -333,7 +348,8 @@ impl Term {
 
     // Whether the term is a set of values of this one's type.
     fn is_element_of(&self, set: &Term) -> bool
-        ensures { result ≡ type_eq (type_of (plain_term set.now)) (SetType (type_of (plain_term self.now))) }
+        ensures { result
+            ≡ type_eq (type_of (plain_term set.now)) (SetType (type_of (plain_term self.now))) }
     {
         match set {
             Term::App { ret_ty, .. } => self.is_element_in(ret_ty),
@@ -371,7 +387,8 @@ impl Term {
     // Whether the type is that of bitvectors of this many bits more.
     fn is_shorter_by(&self, bits: u32, ty: &TermType) -> bool
         ensures { IsTrue (is_some (extended_type bits (type_of (plain_term self.now)))) →
-            result ≡ is_type (extended_type bits (type_of (plain_term self.now))) (plain_type ty.now) }
+            result
+            ≡ is_type (extended_type bits (type_of (plain_term self.now))) (plain_type ty.now) }
     {
         let Some(short) = self.width() else {
             return false;
@@ -385,7 +402,8 @@ impl Term {
     // Whether both terms have one type.
     #[cycle(typed_as)]
     fn is_typed_as(&self, other: &Term) -> bool
-        ensures { result ≡ type_eq (type_of (plain_term self.now)) (type_of (plain_term other.now)) }
+        ensures { result
+            ≡ type_eq (type_of (plain_term self.now)) (type_of (plain_term other.now)) }
     {
         match self {
             Term::App { ret_ty, .. } => other.is_of_type(ret_ty),
@@ -411,7 +429,8 @@ impl Term {
 
     // Whether its type is that of options of values of this one.
     fn is_option_beside(&self, inner: &TermType) -> bool
-        ensures { result ≡ type_eq (OptionType (plain_type inner.now)) (type_of (plain_term self.now)) }
+        ensures { result
+            ≡ type_eq (OptionType (plain_type inner.now)) (type_of (plain_term self.now)) }
     {
         match self {
             Term::App { ret_ty, .. } => inner.is_inside(ret_ty),
@@ -424,7 +443,8 @@ impl Term {
 
     // Whether its type is that of sets of values of this one.
     fn is_set_beside(&self, element: &TermType) -> bool
-        ensures { result ≡ type_eq (SetType (plain_type element.now)) (type_of (plain_term self.now)) }
+        ensures { result
+            ≡ type_eq (SetType (plain_type element.now)) (type_of (plain_term self.now)) }
     {
         match self {
             Term::App { ret_ty, .. } => element.is_element_in(ret_ty),
@@ -435,7 +455,8 @@ impl Term {
     }
 
     fn is_typed_as_literal(&self, literal: &TermPrim) -> bool
-        ensures { result ≡ type_eq (literal_type (plain_literal literal.now)) (type_of (plain_term self.now)) }
+        ensures { result
+            ≡ type_eq (literal_type (plain_literal literal.now)) (type_of (plain_term self.now)) }
     {
         match literal {
             TermPrim::Bitvec(bits) => self.is_of_type(&TermType::Bitvec { n: bits.width() }),
@@ -451,7 +472,8 @@ impl Term {
 
     // Whether it is an entity of this type.
     fn is_entity_of(&self, ety: &EntityType) -> bool
-        ensures { result ≡ type_eq (EntityTypeOf (bytes_of_type ety.now)) (type_of (plain_term self.now)) }
+        ensures { result
+            ≡ type_eq (EntityTypeOf (bytes_of_type ety.now)) (type_of (plain_term self.now)) }
     {
         match self {
             Term::App { ret_ty, .. } => ret_ty.is_of_entities(ety),
@@ -466,8 +488,12 @@ impl TermMap {
     // Whether the attributes are those of the terms, each with its term's type.
     #[cycle(of_type)]
     fn is_of_types(&self, types: &TypeMap) -> bool
-        ensures same { result ≡ type_eq (RecordType (field_types (record_fields (plain_fields self.now)))) (RecordType (attribute_types (plain_attributes types.now))) }
-        ensures turned { result ≡ type_eq (RecordType (attribute_types (plain_attributes types.now))) (RecordType (field_types (record_fields (plain_fields self.now)))) }
+        ensures same { result
+            ≡ type_eq (RecordType (field_types (record_fields (plain_fields self.now))))
+            (RecordType (attribute_types (plain_attributes types.now))) }
+        ensures turned { result
+            ≡ type_eq (RecordType (attribute_types (plain_attributes types.now)))
+            (RecordType (field_types (record_fields (plain_fields self.now)))) }
     {
         let fields = self.items();
         let types = types.items();
@@ -490,7 +516,9 @@ impl TermMap {
     // Whether the attributes of both are the same, and each has in both one type.
     #[cycle(typed_as)]
     fn is_typed_as(&self, others: &TermMap) -> bool
-        ensures { result ≡ type_eq (RecordType (field_types (record_fields (plain_fields self.now)))) (RecordType (field_types (record_fields (plain_fields others.now)))) }
+        ensures { result
+            ≡ type_eq (RecordType (field_types (record_fields (plain_fields self.now))))
+            (RecordType (field_types (record_fields (plain_fields others.now)))) }
     {
         let fields = self.items();
         let others = others.items();
@@ -572,7 +600,8 @@ fn is_same_attribute(name: &Attr, other: &Attr) -> bool
 
 // Whether each of the terms has this type.
 fn are_of_type(terms: &[Term], ty: &TermType) -> bool
-    ensures { result ≡ list_all (type_eq (plain_type ty.now)) (map type_of (map plain_term terms.now)) }
+    ensures { result
+        ≡ list_all (type_eq (plain_type ty.now)) (map type_of (plain_terms terms.now)) }
 {
     for term in terms {
         if !term.is_of_type(ty) {
@@ -584,7 +613,7 @@ fn are_of_type(terms: &[Term], ty: &TermType) -> bool
 
 // Whether each of the terms is less than the next one.
 fn ascend(terms: &[Term]) -> bool
-    ensures { result ≡ ascends term_cmp (map plain_term terms.now) }
+    ensures { result ≡ ascends term_cmp (plain_terms terms.now) }
 {
     let mut left = terms;
     while let Some((first, rest)) = left.split_first() {
@@ -598,7 +627,7 @@ fn ascend(terms: &[Term]) -> bool
 
 // Whether the term is less than the first of the others, where there is one.
 fn is_below(term: &Term, others: &[Term]) -> bool
-    ensures { result ≡ is_below term_cmp (plain_term term.now) (map plain_term others.now) }
+    ensures { result ≡ is_below term_cmp (plain_term term.now) (plain_terms others.now) }
 {
     match others {
         [] => true,
@@ -609,7 +638,8 @@ fn is_below(term: &Term, others: &[Term]) -> bool
 impl Op {
     /// Whether the operator takes as many arguments, and of these types. Takes no memory.
     pub fn takes(&self, args: &[Term]) -> bool
-        ensures { result ≡ is_some (result_type (plain_op self.now) (map type_of (map plain_term args.now))) }
+        ensures { result
+            ≡ is_some (result_type (plain_op self.now) (map type_of (plain_terms args.now))) }
     {
         match args {
             [a] => self.takes_one(a),
@@ -620,7 +650,8 @@ impl Op {
     }
 
     fn takes_one(&self, a: &Term) -> bool
-        ensures { result ≡ is_some (result_type (plain_op self.now) (type_of (plain_term a.now) ∷ [])) }
+        ensures { result
+            ≡ is_some (result_type (plain_op self.now) (type_of (plain_term a.now) ∷ [])) }
     {
         match self {
             Op::Ext(op) => a.is_of_type(&taken_by(*op)),
@@ -636,7 +667,9 @@ impl Op {
     }
 
     fn takes_two(&self, a: &Term, b: &Term) -> bool
-        ensures { result ≡ is_some (result_type (plain_op self.now) (type_of (plain_term a.now) ∷ type_of (plain_term b.now) ∷ [])) }
+        ensures { result
+            ≡ is_some (result_type (plain_op self.now)
+            (type_of (plain_term a.now) ∷ type_of (plain_term b.now) ∷ [])) }
     {
         match self.class() {
             OpClass::Bits | OpClass::Test => a.width().is_some() && a.is_typed_as(b),
@@ -651,7 +684,9 @@ impl Op {
     }
 
     fn takes_three(&self, condition: &Term, a: &Term, b: &Term) -> bool
-        ensures { result ≡ is_some (result_type (plain_op self.now) (type_of (plain_term condition.now) ∷ type_of (plain_term a.now) ∷ type_of (plain_term b.now) ∷ [])) }
+        ensures { result
+            ≡ is_some (result_type (plain_op self.now) (type_of (plain_term condition.now)
+            ∷ type_of (plain_term a.now) ∷ type_of (plain_term b.now) ∷ [])) }
     {
         match self {
             Op::Ite => condition.is_of_type(&TermType::Bool) && a.is_typed_as(b),
@@ -661,8 +696,11 @@ impl Op {
 
     // Whether the operator gives this type to arguments that it takes.
     fn gives(&self, args: &[Term], ty: &TermType) -> bool
-        ensures { IsTrue (is_some (result_type (plain_op self.now) (map type_of (map plain_term args.now)))) →
-            result ≡ is_type (result_type (plain_op self.now) (map type_of (map plain_term args.now))) (plain_type ty.now) }
+        ensures { IsTrue
+            (is_some (result_type (plain_op self.now) (map type_of (plain_terms args.now)))) →
+            result
+            ≡ is_type (result_type (plain_op self.now) (map type_of (plain_terms args.now)))
+            (plain_type ty.now) }
     {
         match args {
             [a] => self.gives_one(a, ty),
@@ -673,8 +711,11 @@ impl Op {
     }
 
     fn gives_one(&self, a: &Term, ty: &TermType) -> bool
-        ensures { IsTrue (is_some (result_type (plain_op self.now) (type_of (plain_term a.now) ∷ []))) →
-            result ≡ is_type (result_type (plain_op self.now) (type_of (plain_term a.now) ∷ [])) (plain_type ty.now) }
+        ensures { IsTrue
+            (is_some (result_type (plain_op self.now) (type_of (plain_term a.now) ∷ []))) →
+            result
+            ≡ is_type (result_type (plain_op self.now) (type_of (plain_term a.now) ∷ []))
+            (plain_type ty.now) }
     {
         match self {
             Op::Bvneg => a.is_of_type(ty),
@@ -688,8 +729,15 @@ impl Op {
     }
 
     fn gives_two(&self, a: &Term, b: &Term, ty: &TermType) -> bool
-        ensures { IsTrue (is_some (result_type (plain_op self.now) (type_of (plain_term a.now) ∷ type_of (plain_term b.now) ∷ []))) →
-            result ≡ is_type (result_type (plain_op self.now) (type_of (plain_term a.now) ∷ type_of (plain_term b.now) ∷ [])) (plain_type ty.now) }
+        ensures { IsTrue
+            (is_some (result_type (plain_op self.now)
+            (type_of (plain_term a.now) ∷ type_of (plain_term b.now) ∷ [])))
+            →
+            result
+            ≡ is_type
+            (result_type (plain_op self.now)
+            (type_of (plain_term a.now) ∷ type_of (plain_term b.now) ∷ []))
+            (plain_type ty.now) }
     {
         match self.class() {
             OpClass::Bits => a.is_of_type(ty),
@@ -702,8 +750,15 @@ impl Op {
     }
 
     fn gives_three(&self, condition: &Term, a: &Term, b: &Term, ty: &TermType) -> bool
-        ensures { IsTrue (is_some (result_type (plain_op self.now) (type_of (plain_term condition.now) ∷ type_of (plain_term a.now) ∷ type_of (plain_term b.now) ∷ []))) →
-            result ≡ is_type (result_type (plain_op self.now) (type_of (plain_term condition.now) ∷ type_of (plain_term a.now) ∷ type_of (plain_term b.now) ∷ [])) (plain_type ty.now) }
+        ensures { IsTrue
+            (is_some (result_type (plain_op self.now) (type_of (plain_term condition.now)
+            ∷ type_of (plain_term a.now) ∷ type_of (plain_term b.now) ∷ [])))
+            →
+            result
+            ≡ is_type
+            (result_type (plain_op self.now) (type_of (plain_term condition.now)
+            ∷ type_of (plain_term a.now) ∷ type_of (plain_term b.now) ∷ []))
+            (plain_type ty.now) }
     {
         match self {
             Op::Ite => a.is_of_type(ty),

@@ -5,12 +5,12 @@ ghost use Rattle.std.specs.Prelude.{◌≡◌, IfOk, map};
 ghost use Rattle.std.specs.List.{list_all};
 ghost use Rattle.smt_term.specs.Functions.{plain_definition, plain_unary};
 ghost use Rattle.smt_term.specs.Tables.{plain_entry};
-ghost use Rattle.law_terms.specs.Functions.{argument_type, is_literal_definition, is_literal_entry, is_literal_function, output_type};
+ghost use Rattle.law_terms.specs.Functions.{argument_type, is_literal_definition, is_literal_entry};
+ghost use Rattle.law_terms.specs.Functions.{is_literal_function, output_type};
 ghost use Rattle.smt_term.specs.View.{plain_type};
 
 use crate::table::TermTable;
-use crate::{Term, TermType, Uuf};
-use smt_types::TermError;
+use crate::{Term, TermError, TermType, Uuf};
 use std::rc::Rc;
 
 /// A function that a table defines.

@@ -1,5 +1,6 @@
 //! Digits and signs at the front of a text.
-ghost use Rattle.std.specs.Prelude.{◌≡◌, ◌^◌, ◌<◌, ◌∷◌, ℕ, List, length, reverse, ◌≤◌, IsTrue, IfSome, IfNone, FitsSigned};
+ghost use Rattle.std.specs.Prelude.{◌≡◌, ◌^◌, ◌<◌, ◌∷◌, ℕ, List, length, reverse, ◌≤◌, IsTrue};
+ghost use Rattle.std.specs.Prelude.{IfSome, IfNone, FitsSigned};
 ghost use Rattle.std.specs.Int.{w64};
 ghost use Rattle.std.specs.List.{list_all, take_while};
 ghost use Rattle.std.specs.Option.{SomeIff};
@@ -114,7 +115,8 @@ pub fn split_minus(text: &[u8]) -> (bool, &[u8])
 
 /// The number with its sign, where it fits 64 bits.
 pub fn with_sign(negative: bool, magnitude: u64) -> Option<i64>
-    ensures { SomeIff result (FitsSigned w64 (signed_number negative magnitude)) (signed_number negative magnitude) }
+    ensures { SomeIff result (FitsSigned w64 (signed_number negative magnitude))
+        (signed_number negative magnitude) }
 {
     if negative {
         0i64.checked_sub_unsigned(magnitude)

@@ -8,7 +8,8 @@ use std::alloc::{AllocError, Global};
 
 /// Appends a character of an id: the quote, the backslash and the controls of ASCII by an escape.
 fn push_escaped(quoted: &mut String, c: char) -> Result<(), AllocError>
-    ensures { OnOk result (string_bytes quoted.new ≡ string_bytes quoted.old ++ flat_map quoted_id_byte (encode_utf8 c)) }
+    ensures { OnOk result (string_bytes quoted.new
+        ≡ string_bytes quoted.old ++ flat_map quoted_id_byte (encode_utf8 c)) }
 {
     match c {
         '\0' => quoted.push_str("\\0"),

@@ -1,9 +1,9 @@
 // Shared texts, and texts with a space between each two.
-ghost use Rattle.std.specs.Prelude.{◌≡◌, ◌++◌, IfOk, OnOk};
+ghost use Rattle.std.specs.Prelude.{◌≡◌, ◌++◌, OnOk};
 ghost use Rattle.std.specs.Rc.{rc_str_bytes};
 ghost use Rattle.std.specs.String.{string_bytes};
 ghost use Rattle.law_texts.specs.LineTexts.{spaced};
-ghost use Rattle.law_texts.specs.SharedTexts.{texts};
+ghost use Rattle.law_texts.specs.SharedTexts.{GivesText, texts};
 
 use std::alloc::AllocError;
 use std::rc::RcStr;
@@ -33,14 +33,15 @@ pub type Text = RcStr;
 /// assert_eq!(rt; shared, id);
 /// ```
 pub fn share_text(text: &Text) -> Result<Text, AllocError>
-    ensures { IfOk result (λ shared. rc_str_bytes shared ≡ rc_str_bytes text.now) }
+    ensures { GivesText result (rc_str_bytes text.now) }
 {
     Ok(text.clone()?)
 }
 
 /// Appends texts with a space between each two.
 pub fn push_spaced(text: &mut String, pieces: &[Text]) -> Result<(), AllocError>
-    ensures { OnOk result (string_bytes text.new ≡ string_bytes text.old ++ spaced (texts pieces.now)) }
+    ensures { OnOk result
+        (string_bytes text.new ≡ string_bytes text.old ++ spaced (texts pieces.now)) }
 {
     let mut gap = "";
     for piece in pieces {

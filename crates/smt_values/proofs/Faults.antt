@@ -1,12 +1,12 @@
 -- Faults that are passed on.
 use Rattle.std.proofs.Common.{◌≡◌, Ok, Err, Result, sym, ap, subst}
 use Rattle.std.specs.Prelude.{IsErrAnd}
-use Rattle.smt_cedar.specs.RefusedTypes.{IsRefusal as IsTypeRefusal}
-use Rattle.smt_cedar.specs.TypeOfCedar.{Stated}
-use Rattle.smt_cedar.specs.declared.compile_error.CompileError.{CompileError as TypeError}
-use Rattle.smt_cedar.specs.declared.compile_error.CompileError.TheVariants as types
-use Rattle.smt_cedar.specs.declared.ext_error.ExtError.{ExtError as ValueError}
-use Rattle.smt_cedar.specs.declared.ext_error.ExtError.TheVariants as values
+use Rattle.smt_values.specs.RefusedTypes.{IsRefusal as IsTypeRefusal}
+use Rattle.smt_values.specs.TypeOfCedar.{Stated}
+use Rattle.smt_values.specs.declared.compile_error.CompileError.{CompileError as TypeError}
+use Rattle.smt_values.specs.declared.compile_error.CompileError.TheVariants as types
+use Rattle.smt_values.specs.declared.ext_error.ExtError.{ExtError as ValueError}
+use Rattle.smt_values.specs.declared.ext_error.ExtError.TheVariants as values
 use Rattle.smt_values.specs.Outcomes.{SymbolizeFault, Outcome, converted}
 use Rattle.smt_values.specs.Refused.{IsGiven, IsNoExtension, IsRefusal, IsUnsupported, type_refusal}
 use Rattle.smt_values.specs.declared.error.SymbolizeError.{SymbolizeError}

@@ -4,9 +4,9 @@ use Rattle.std.proofs.lemmas.List.{at_drop_more, at_drop_all}
 use Rattle.std.specs.Rc.{rc_str_bytes}
 use Rattle.std.specs.declared.alloc.Global.{Global}
 use Rattle.std.specs.declared.rc.RcStr.{RcStr}
-use Rattle.smt_cedar.specs.Plain.{PlainValue, value_fields}
-use Rattle.smt_cedar.specs.ValueView.{named_field, plain_value_of}
-use Rattle.smt_cedar.specs.declared.value.Value.{Value}
+use Rattle.smt_values.specs.PlainValues.{PlainValue, value_fields}
+use Rattle.smt_values.specs.ValueView.{named_field, plain_value_of}
+use Rattle.smt_values.specs.declared.value.Value.{Value}
 use Rattle.smt_values.specs.TermOfValue.{field_named}
 
 -- the value of an attribute in pairs

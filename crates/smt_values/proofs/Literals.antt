@@ -10,10 +10,10 @@ use Rattle.law_terms.specs.TermSets.{set_term, sorted_terms}
 use Rattle.law_terms.specs.ValueOrder.{text_cmp}
 use Rattle.law_terms.proofs.Sorted.{all-sorted}
 use Rattle.law_terms.proofs.SortedSets.{all-terms}
-use Rattle.smt_cedar.specs.Cedar.{PlainCedar, SetType, ClosedRecordType, CedarAttributes, no_attributes, attribute}
-use Rattle.smt_cedar.specs.TypeOfCedar.{type_of_cedar}
-use Rattle.smt_cedar.specs.Constructors.{value_of_value}
-use Rattle.smt_cedar.specs.Plain.{CedarLiteral, TruthOf, LongOf, TextOf, EntityOf, PlainValue, LiteralValue, SetValue, RecordValue, ExtensionValue, PlainValues, no_values, one_value, PlainFields}
+use Rattle.smt_values.specs.Cedar.{PlainCedar, SetType, ClosedRecordType, CedarAttributes, no_attributes, attribute}
+use Rattle.smt_values.specs.TypeOfCedar.{type_of_cedar}
+use Rattle.smt_values.specs.Constructors.{value_of_value}
+use Rattle.smt_values.specs.PlainValues.{CedarLiteral, TruthOf, LongOf, TextOf, EntityOf, PlainValue, LiteralValue, SetValue, RecordValue, ExtensionValue, PlainValues, no_values, one_value, PlainFields}
 use Rattle.smt_values.specs.Literals.{TermsAreLiterals}
 use Rattle.smt_values.specs.Outcomes.{Outcome, ◌>>=◌, converted}
 use Rattle.smt_values.specs.TermOfValue.{extension_term, field_named, literal_term, term_at_any_type, term_held, term_lacked, term_of_attribute, term_of_value, terms_of_attributes, terms_of_elements}

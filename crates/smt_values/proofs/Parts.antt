@@ -8,14 +8,14 @@ use Rattle.std.specs.declared.rc.Rc.{Rc}
 use Rattle.std.specs.declared.rc.RcStr.{RcStr}
 use Rattle.law_terms.specs.Plain.{PlainTerm, PlainType}
 use Rattle.law_terms.specs.TermSets.{set_term}
-use Rattle.smt_cedar.specs.TypeOfCedar.{type_of_cedar}
-use Rattle.smt_cedar.specs.TypeView.{attributes_in_order, pairs_held, plain_attributes-named, plain_cedar, plain_cedar_attributes, set_with}
-use Rattle.smt_cedar.specs.declared.attributes.AttributeType.{AttributeType}
-use Rattle.smt_cedar.specs.declared.attributes.Attributes.{Attributes}
-use Rattle.smt_cedar.specs.declared.cedar_type.CedarType.{CedarType}
-use Rattle.smt_cedar.specs.Plain.{PlainFields, SetValue, values}
-use Rattle.smt_cedar.specs.ValueView.{plain_value_of}
-use Rattle.smt_cedar.specs.declared.value.Value.{Value}
+use Rattle.smt_values.specs.TypeOfCedar.{type_of_cedar}
+use Rattle.smt_values.specs.TypeView.{attributes_in_order, pairs_held, plain_attributes-named, plain_cedar, plain_cedar_attributes, set_with}
+use Rattle.smt_values.specs.declared.attributes.AttributeType.{AttributeType}
+use Rattle.smt_values.specs.declared.attributes.Attributes.{Attributes}
+use Rattle.smt_values.specs.declared.cedar_type.CedarType.{CedarType}
+use Rattle.smt_values.specs.PlainValues.{PlainFields, SetValue, values}
+use Rattle.smt_values.specs.ValueView.{plain_value_of}
+use Rattle.smt_values.specs.declared.value.Value.{Value}
 use Rattle.smt_values.specs.Outcomes.{SymbolizeFault, Outcome, ◌>>=◌, converted}
 use Rattle.smt_values.specs.TermOfValue.{field_named, term_of_attribute, term_of_value, terms_of_attributes, terms_of_elements}
 use Rattle.smt_values.specs.Outcomes.{each}

@@ -5,7 +5,7 @@ use Rattle.std.proofs.lemmas.Slice.Eq.{bytes_eq-Decides}
 use Rattle.std.specs.Cmp.{first_so, second_so}
 use Rattle.std.specs.List.{AllByRecursion, IsDistinct, position_or_len}
 use Rattle.std.specs.Prelude.{bytes_eq}
-use Rattle.smt_types.specs.Entities.{texts_of_entity}
+use Rattle.smt_term.specs.Entities.{texts_of_entity}
 use Rattle.smt_values.specs.Plain.{PlainEntity}
 use Rattle.smt_values.specs.Stores.{entity_of, is_named, put_entity}
 use Rattle.smt_values.specs.Uids.{Uid, same_uid}

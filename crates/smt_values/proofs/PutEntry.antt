@@ -16,9 +16,9 @@ use Rattle.std.specs.declared.cmp.Ordering.TheVariants.{Less, Equal, Greater}
 use Rattle.law_terms.proofs.Sorted.{ascends-inserted}
 use Rattle.law_terms.proofs.ValueOrder.{text_same}
 use Rattle.law_terms.specs.ValueOrder.{ascends, text_cmp}
-use Rattle.smt_types.proofs.LastPairs.{lookup-put}
-use Rattle.smt_types.specs.Entities.{bytes_of_type}
-use Rattle.smt_types.specs.declared.entity.EntityType.{EntityType}
+use Rattle.smt_term.proofs.LastPairs.{lookup-put}
+use Rattle.smt_term.specs.Entities.{bytes_of_type}
+use Rattle.smt_term.specs.declared.entity.EntityType.{EntityType}
 use Rattle.smt_values.specs.Entries.{is_at_most, is_not_above}
 use Rattle.smt_values.specs.Plain.{PlainEntry}
 use Rattle.smt_values.specs.View.{entry_named, plain_entry}

@@ -5,11 +5,11 @@ use Rattle.std.specs.List.{IsDistinct}
 use Rattle.std.specs.Map.{keys_of}
 use Rattle.std.specs.Prelude.{IsTrue}
 use Rattle.law_terms.specs.ValueOrder.{ascends, text_cmp}
-use Rattle.smt_types.specs.Entities.{bytes_of_type, texts_of_entity}
-use Rattle.smt_types.specs.declared.entity.EntityType.{EntityType}
-use Rattle.smt_cedar.specs.Cedar.{cedar_attributes}
-use Rattle.smt_cedar.specs.TypeView.{named_attributes, plain_attributes-named, plain_cedar_attributes}
-use Rattle.smt_cedar.specs.declared.attributes.Attributes.{Attributes}
+use Rattle.smt_term.specs.Entities.{bytes_of_type, texts_of_entity}
+use Rattle.smt_term.specs.declared.entity.EntityType.{EntityType}
+use Rattle.smt_values.specs.Cedar.{cedar_attributes}
+use Rattle.smt_values.specs.TypeView.{named_attributes, plain_attributes-named, plain_cedar_attributes}
+use Rattle.smt_values.specs.declared.attributes.Attributes.{Attributes}
 use Rattle.smt_values.proofs.PutEntity.{uids_in, uids-said}
 use Rattle.smt_values.proofs.PutEntry.{keys-said}
 use Rattle.smt_values.specs.Uids.{same_uid}

@@ -2,7 +2,9 @@
 use Rattle.std.specs.Prelude.{ℕ, false, List, [], ◌∷◌, Option, Some, None}
 use Rattle.law_folding.specs.FoldRecords.{record_of_pairs}
 use Rattle.law_terms.specs.Defaults.{default_extension}
-use Rattle.law_terms.specs.Plain.{PlainType, OptionType, BitVecType, BoolType, EntityType, ExtensionType, StringType, RecordType, SetType, AttributeTypes, no_attributes, attribute, BitVecLiteral, BoolLiteral, EntityLiteral, ExtensionLiteral, StringLiteral, PlainTerm, LiteralTerm, NoneTerm, SetTerm, no_terms}
+use Rattle.law_terms.specs.Plain.{PlainType, OptionType, BitVecType, BoolType, EntityType, ExtensionType, StringType, RecordType, SetType}
+use Rattle.law_terms.specs.Plain.{AttributeTypes, no_attributes, attribute, BitVecLiteral, BoolLiteral, EntityLiteral, ExtensionLiteral}
+use Rattle.law_terms.specs.Plain.{StringLiteral, PlainTerm, LiteralTerm, NoneTerm, SetTerm, no_terms}
 use Rattle.law_terms.specs.TypeValues.{Enums, members_of}
 
 -- the first of these texts, or the empty text where there is none

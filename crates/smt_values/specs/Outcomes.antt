@@ -1,8 +1,8 @@
 -- What is stated of symbolizing a value, or why it has no term.
 use Rattle.std.specs.Prelude.{ℕ, List, [], ◌∷◌, Result, Ok, Err}
 pub use Rattle.law_texts.specs.Outcomes.{◌>>=◌}
-use Rattle.smt_cedar.specs.TypeOfCedar.{Stated}
-use Rattle.smt_cedar.specs.Plain.{PlainValue}
+use Rattle.smt_values.specs.TypeOfCedar.{Stated}
+use Rattle.smt_values.specs.PlainValues.{PlainValue}
 
 -- why a part of Cedar's values, requests and stores has no term
 pub data SymbolizeFault : Type 0 where

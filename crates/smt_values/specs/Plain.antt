@@ -1,7 +1,7 @@
 -- Stores, schemas and requests without where they lie in memory. A text is the list of its UTF-8 bytes.
 use Rattle.std.specs.Prelude.{ℕ, List, Option}
-use Rattle.smt_cedar.specs.Cedar.{PlainCedar, CedarAttributes}
-use Rattle.smt_cedar.specs.Plain.{PlainValue}
+use Rattle.smt_values.specs.Cedar.{PlainCedar, CedarAttributes}
+use Rattle.smt_values.specs.PlainValues.{PlainValue}
 use Rattle.smt_values.specs.Uids.{Uid}
 
 -- attributes, or tags, in the order of their bytes, each with its value where that is known

@@ -2,15 +2,16 @@
 use Rattle.std.specs.Prelude.{◌≡◌, ⊤, Ok, Err, Result}
 use Rattle.std.specs.Rc.{rc_str_bytes}
 use Rattle.law_terms.specs.Plain.{PlainTerm}
-use Rattle.smt_cedar.specs.declared.compile_error.CompileError.{CompileError as TypeError}
-use Rattle.smt_cedar.specs.declared.compile_error.CompileError.TheVariants as types
-use Rattle.smt_cedar.specs.Plain.{PlainValue}
-use Rattle.smt_cedar.specs.ValueView.{plain_value_of}
-use Rattle.smt_cedar.specs.declared.ext_error.ExtError.{ExtError as ValueError}
-use Rattle.smt_cedar.specs.declared.ext_error.ExtError.TheVariants as values
+use Rattle.smt_values.specs.declared.compile_error.CompileError.{CompileError as TypeError}
+use Rattle.smt_values.specs.declared.compile_error.CompileError.TheVariants as types
+use Rattle.smt_values.specs.PlainValues.{PlainValue}
+use Rattle.smt_values.specs.ValueView.{plain_value_of}
+use Rattle.smt_values.specs.declared.ext_error.ExtError.{ExtError as ValueError}
+use Rattle.smt_values.specs.declared.ext_error.ExtError.TheVariants as values
 use Rattle.smt_values.specs.Outcomes.{Outcome, NoTerm, NoExtension, Unsupported, IncompleteRequest, UnknownValue, ForeignRequest}
 use Rattle.smt_values.specs.declared.error.SymbolizeError.{SymbolizeError}
-use Rattle.smt_values.specs.declared.error.SymbolizeError.TheVariants.{UnableToSymbolizeValue, CompileError, ExtError, PartialRequest, PartialValue, IllFormedTypeEnv, EntitiesError, Memory}
+use Rattle.smt_values.specs.declared.error.SymbolizeError.TheVariants.{UnableToSymbolizeValue, CompileError, ExtError, PartialRequest}
+use Rattle.smt_values.specs.declared.error.SymbolizeError.TheVariants.{PartialValue, IllFormedTypeEnv, EntitiesError, Memory}
 
 -- The error of a Cedar type is the fault that no type of terms stands for it, by the reason that is stated. It is never want of
 -- memory, for which the outer error has a case of its own.

@@ -21,8 +21,13 @@ EntriesAscend = (entries : EntryMap) → IsTrue (ascends text_cmp (keys_of (plai
 
 -- an entity that was put into a store is found by its uid, and all others are as before
 abbrev pub PutEntityIsFound : Type 0
-PutEntityIsFound = (entity : PlainEntity) (entities : List PlainEntity) (uid : Uid) → entity_of (put_entity entity entities) uid ≡ cond (same_uid entity.uid uid) (Some entity) (entity_of entities uid)
+PutEntityIsFound =
+    (entity : PlainEntity) (entities : List PlainEntity) (uid : Uid) →
+    entity_of (put_entity entity entities) uid ≡ cond (same_uid entity.uid uid) (Some entity) (entity_of entities uid)
 
 -- an entry that was put into a map of entity types is found by its type, and all others are as before
 abbrev pub PutEntryIsFound : Type 0
-PutEntryIsFound = (type asked : List ℕ) (entry : PlainEntry) (entries : List (List ℕ × PlainEntry)) → lookup (bytes_eq asked) (insert_entry text_cmp entries type entry) ≡ cond (bytes_eq type asked) (Some entry) (lookup (bytes_eq asked) entries)
+PutEntryIsFound =
+    (type asked : List ℕ) (entry : PlainEntry) (entries : List (List ℕ × PlainEntry)) →
+    lookup (bytes_eq asked) (insert_entry text_cmp entries type entry)
+    ≡ cond (bytes_eq type asked) (Some entry) (lookup (bytes_eq asked) entries)

@@ -3,12 +3,14 @@ use Rattle.std.specs.Prelude.{ℕ, Bool, true, false, bytes_eq, List, [], ◌∷
 use Rattle.law_numbers.specs.BitVectors.{bits_of}
 use Rattle.law_numbers.specs.Extensions.{PlainExtension}
 use Rattle.law_folding.specs.FoldRecords.{record_of_pairs}
-use Rattle.law_terms.specs.Plain.{BitVecLiteral, BoolLiteral, EntityLiteral, ExtensionLiteral, StringLiteral, PlainTerm, LiteralTerm, NoneTerm, SomeTerm}
+use Rattle.law_terms.specs.Plain.{BitVecLiteral, BoolLiteral, EntityLiteral, ExtensionLiteral, StringLiteral, PlainTerm, LiteralTerm}
+use Rattle.law_terms.specs.Plain.{NoneTerm, SomeTerm}
 use Rattle.law_terms.specs.TermSets.{set_term}
-use Rattle.smt_cedar.specs.Cedar.{PlainCedar, SetType, ClosedRecordType, CedarAttributes, no_attributes, attribute}
-use Rattle.smt_cedar.specs.TypeOfCedar.{type_of_cedar}
-use Rattle.smt_cedar.specs.Constructors.{value_of_value}
-use Rattle.smt_cedar.specs.Plain.{CedarLiteral, TruthOf, LongOf, TextOf, EntityOf, PlainValue, LiteralValue, SetValue, RecordValue, ExtensionValue, PlainValues, no_values, one_value, PlainFields, no_fields, one_field}
+use Rattle.smt_values.specs.Cedar.{PlainCedar, SetType, ClosedRecordType, CedarAttributes, no_attributes, attribute}
+use Rattle.smt_values.specs.TypeOfCedar.{type_of_cedar}
+use Rattle.smt_values.specs.Constructors.{value_of_value}
+use Rattle.smt_values.specs.PlainValues.{CedarLiteral, TruthOf, LongOf, TextOf, EntityOf, PlainValue, LiteralValue, SetValue, RecordValue}
+use Rattle.smt_values.specs.PlainValues.{ExtensionValue, PlainValues, no_values, one_value, PlainFields, no_fields, one_field}
 use Rattle.smt_values.specs.Outcomes.{Outcome, ◌>>=◌, converted, NoTerm, NoExtension}
 
 -- ---- values that have one term at every type
@@ -57,7 +59,8 @@ term_lacked false type held = converted (type_of_cedar type) >>= λ own. Ok (Non
 
 -- the term of an attribute in a record of these fields, by the type of the attribute, whether it is required, and its value in
 -- the record, where the record has it
-abbrev pub term_of_attribute : (term_of : PlainValue → Outcome PlainTerm) → PlainCedar → (required : Bool) → PlainFields → Option PlainValue → Outcome PlainTerm
+abbrev pub term_of_attribute : (term_of : PlainValue → Outcome PlainTerm) → PlainCedar → (required : Bool) → PlainFields →
+    Option PlainValue → Outcome PlainTerm
 term_of_attribute term_of type required held (Some v) = term_of v >>= λ t. Ok (term_held required t)
 term_of_attribute term_of type required held None = term_lacked required type held
 
@@ -68,7 +71,8 @@ abbrev mutual
   -- its elements' terms, of a record at a closed record type the record of the terms of the type's attributes, and of any other
   -- value its term at any type.
   pub term_of_value : PlainCedar → PlainValue → Outcome PlainTerm
-  term_of_value (SetType element) (SetValue vs) = terms_of_elements (term_of_value element) vs >>= λ ts. converted (type_of_cedar element) >>= λ own. Ok (set_term own ts)
+  term_of_value (SetType element) (SetValue vs) =
+      terms_of_elements (term_of_value element) vs >>= λ ts. converted (type_of_cedar element) >>= λ own. Ok (set_term own ts)
   term_of_value (ClosedRecordType named) (RecordValue held) = terms_of_attributes named held >>= λ ps. Ok (record_of_pairs ps)
   term_of_value type v = term_at_any_type v
 
@@ -76,4 +80,5 @@ abbrev mutual
   pub terms_of_attributes : CedarAttributes → PlainFields → Outcome (List (List ℕ × PlainTerm))
   terms_of_attributes no_attributes held = Ok []
   terms_of_attributes (attribute name type required others) held =
-      term_of_attribute (term_of_value type) type required held (field_named name held) >>= λ t. terms_of_attributes others held >>= λ ts. Ok ((name, t) ∷ ts)
+      term_of_attribute (term_of_value type) type required held (field_named name held) >>=
+      λ t. terms_of_attributes others held >>= λ ts. Ok ((name, t) ∷ ts)

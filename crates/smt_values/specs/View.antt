@@ -1,13 +1,13 @@
 -- The plain form of the program's schemas, requests and stores: what they say, without where they lie in memory.
 use Rattle.std.specs.Prelude.{ℕ, List, map, option_map}
-use Rattle.smt_types.specs.Entities.{bytes_of_type, texts_of_entity}
-use Rattle.smt_types.specs.TextSets.{texts_of}
-use Rattle.smt_types.specs.declared.entity.EntityType.{EntityType}
-use Rattle.smt_types.specs.declared.entity.EntityUID.{EntityUID}
-use Rattle.smt_cedar.specs.EntityTypes.{names_held}
-use Rattle.smt_cedar.specs.TypeView.{plain_cedar, plain_cedar_attributes}
-use Rattle.smt_cedar.specs.declared.entity_types.EntityTypeList.{EntityTypeList}
-use Rattle.smt_cedar.specs.ValueView.{known_fields, named_fields}
+use Rattle.smt_term.specs.Entities.{bytes_of_type, texts_of_entity}
+use Rattle.smt_term.specs.TextSets.{texts_of}
+use Rattle.smt_term.specs.declared.entity.EntityType.{EntityType}
+use Rattle.smt_term.specs.declared.entity.EntityUID.{EntityUID}
+use Rattle.smt_values.specs.EntityTypes.{names_held}
+use Rattle.smt_values.specs.TypeView.{plain_cedar, plain_cedar_attributes}
+use Rattle.smt_values.specs.declared.entity_types.EntityTypeList.{EntityTypeList}
+use Rattle.smt_values.specs.ValueView.{known_fields, named_fields}
 use Rattle.smt_values.specs.declared.actions.ActionEntry.{ActionEntry}
 use Rattle.smt_values.specs.declared.actions.ActionList.{ActionList}
 use Rattle.smt_values.specs.declared.entity.Entity.{Entity}
@@ -20,7 +20,8 @@ use Rattle.smt_values.specs.declared.request.RequestEnv.{RequestEnv}
 use Rattle.smt_values.specs.declared.schema.Schema.{Schema}
 use Rattle.smt_values.specs.declared.store.Entities.{Entities}
 use Rattle.smt_values.specs.declared.uids.UidList.{UidList}
-use Rattle.smt_values.specs.Plain.{PlainEntity, PlainEntry, StandardType, EnumType, PlainAction, PlainSchema, PlainRequestEnv, PlainRequest, PlainEnv}
+use Rattle.smt_values.specs.Plain.{PlainEntity, PlainEntry, StandardType, EnumType, PlainAction, PlainSchema, PlainRequestEnv, PlainRequest}
+use Rattle.smt_values.specs.Plain.{PlainEnv}
 use Rattle.smt_values.specs.Uids.{Uid}
 
 -- the uids of a list, in order
@@ -39,7 +40,8 @@ plain_types list = names_held list
 
 -- the plain form of what a schema says of an entity type
 abbrev pub plain_entry : EntityEntry → PlainEntry
-plain_entry (Standard ancestors attrs tags) = StandardType (plain_types ancestors) (plain_cedar_attributes attrs) (option_map plain_cedar tags)
+plain_entry (Standard ancestors attrs tags) =
+    StandardType (plain_types ancestors) (plain_cedar_attributes attrs) (option_map plain_cedar tags)
 plain_entry (Enum members) = EnumType (texts_of members)
 
 -- the name of an entity type as bytes, with the plain form of what a schema says of it
@@ -99,7 +101,8 @@ plain_entities entities = map plain_stored (entities_held entities)
 
 -- the plain form of a request environment
 abbrev pub plain_request_env : RequestEnv → PlainRequestEnv
-plain_request_env env = record { principal = bytes_of_type env.principal; action = texts_of_entity env.action; resource = bytes_of_type env.resource }
+plain_request_env env =
+    record { principal = bytes_of_type env.principal; action = texts_of_entity env.action; resource = bytes_of_type env.resource }
 
 -- the plain form of a request
 abbrev pub plain_request : Request → PlainRequest

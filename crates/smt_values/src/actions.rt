@@ -1,12 +1,12 @@
 // What a schema says of actions.
 ghost use Rattle.std.specs.Prelude.{◌≡◌, ◌++◌, ◌∷◌, [], IfOk, OnErr, OnOk, length, map, option_map};
-ghost use Rattle.smt_types.specs.Entities.{texts_of_entity};
+ghost use Rattle.smt_term.specs.Entities.{texts_of_entity};
 ghost use Rattle.smt_values.specs.Stores.{action_of};
 ghost use Rattle.smt_values.specs.View.{actions_held, plain_action, plain_actions};
 
 use crate::uids::UidList;
-use smt_cedar::{Attributes, EntityTypeList};
-use smt_types::{EntityUID, TermError};
+use crate::{Attributes, EntityTypeList};
+use smt_term::{EntityUID, TermError};
 use std::alloc::{AllocError, Global};
 
 /// What a schema says of an action.
@@ -58,7 +58,8 @@ impl ActionList {
     /// # Errors
     /// Want of memory. The list stays as it is.
     pub fn push(&mut self, item: ActionEntry) -> Result<(), AllocError>
-        ensures pushed { OnOk result (plain_actions self.new ≡ plain_actions self.old ++ plain_action item ∷ []) }
+        ensures pushed { OnOk result
+            (plain_actions self.new ≡ plain_actions self.old ++ plain_action item ∷ []) }
         ensures unchanged { OnErr result (plain_actions self.new ≡ plain_actions self.old) }
     {
         self.items.push(item)?;
@@ -82,7 +83,8 @@ impl ActionList {
 
     /// The entry that counts of an action, or `None` exactly where the list has none.
     pub fn get(&self, uid: &EntityUID) -> Option<&ActionEntry>
-        ensures { option_map (λ action. plain_action action.now) result ≡ action_of (plain_actions self.now) (texts_of_entity uid.now) }
+        ensures { option_map (λ action. plain_action action.now) result
+            ≡ action_of (plain_actions self.now) (texts_of_entity uid.now) }
     {
         let mut found = None;
         for action in self.items.as_slice() {

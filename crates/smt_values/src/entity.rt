@@ -1,13 +1,13 @@
 // Entities, and how one gets into a list of them.
 ghost use Rattle.std.specs.Prelude.{◌≡◌, IfOk, OnErr, OnOk, map};
 ghost use Rattle.std.specs.List.{position_or_len};
-ghost use Rattle.smt_types.specs.Entities.{texts_of_entity};
+ghost use Rattle.smt_term.specs.Entities.{texts_of_entity};
 ghost use Rattle.smt_values.specs.Stores.{is_named, put_entity};
 ghost use Rattle.smt_values.specs.View.{plain_stored};
 
+use crate::PartialMap;
 use crate::uids::UidList;
-use smt_cedar::PartialMap;
-use smt_types::{EntityUID, TermError};
+use smt_term::{EntityUID, TermError};
 use std::alloc::AllocError;
 
 /// A stored entity.
@@ -58,7 +58,8 @@ impl Entity {
 /// Want of memory. The list stays as it is.
 #[tactic(auto, using(crate::proofs::PutEntity::entity_set, crate::proofs::PutEntity::entity_push))]
 pub(crate) fn put(items: &mut Vec<Entity>, entity: Entity) -> Result<(), AllocError>
-    ensures put { OnOk result (map plain_stored items.new.items ≡ put_entity (plain_stored entity) (map plain_stored items.old.items)) }
+    ensures put { OnOk result (map plain_stored items.new.items
+        ≡ put_entity (plain_stored entity) (map plain_stored items.old.items)) }
     ensures unchanged { OnErr result (items.new.items ≡ items.old.items) }
 {
     let place = place_of(items.as_slice(), &entity.uid);
@@ -72,7 +73,8 @@ pub(crate) fn put(items: &mut Vec<Entity>, entity: Entity) -> Result<(), AllocEr
 
 // The place of the first entity of this uid, or the count of all.
 fn place_of(items: &[Entity], uid: &EntityUID) -> usize
-    ensures { result ≡ position_or_len (is_named (texts_of_entity uid.now)) (map plain_stored items.now) }
+    ensures { result
+        ≡ position_or_len (is_named (texts_of_entity uid.now)) (map plain_stored items.now) }
 {
     let mut place = 0;
     for item in items {

@@ -3,13 +3,13 @@ ghost use Rattle.std.specs.Prelude.{◌≡◌, ◌≤◌, IfOk, OnErr, OnOk, len
 ghost use Rattle.std.specs.BTreeMap.{insert_entry};
 ghost use Rattle.std.specs.List.{position_or_len};
 ghost use Rattle.law_terms.specs.ValueOrder.{text_cmp};
-ghost use Rattle.smt_types.specs.Entities.{bytes_of_type};
-ghost use Rattle.smt_cedar.specs.TypeView.{plain_cedar};
+ghost use Rattle.smt_term.specs.Entities.{bytes_of_type};
+ghost use Rattle.smt_values.specs.TypeView.{plain_cedar};
 ghost use Rattle.smt_values.specs.Entries.{is_not_above};
 ghost use Rattle.smt_values.specs.View.{entry_named, plain_entry};
 
-use smt_cedar::{Attributes, CedarType, EntityTypeList};
-use smt_types::{EntityType, TermError, TextSet};
+use crate::{Attributes, CedarType, EntityTypeList};
+use smt_term::{EntityType, TermError, TextSet};
 use std::alloc::AllocError;
 use std::cmp::Ordering;
 
@@ -69,7 +69,8 @@ impl EntityEntry {
 
 // The type of tags, where there is one, shared.
 fn shared_type(tags: &Option<CedarType>) -> Result<Option<CedarType>, TermError>
-    ensures { IfOk result (λ shared. option_map plain_cedar shared ≡ option_map plain_cedar tags.now) }
+    ensures { IfOk result
+        (λ shared. option_map plain_cedar shared ≡ option_map plain_cedar tags.now) }
 {
     match tags {
         Some(ty) => Ok(Some(ty.share()?)),
@@ -86,7 +87,9 @@ pub(crate) fn put(
     items: &mut Vec<(EntityType, EntityEntry)>,
     item: (EntityType, EntityEntry),
 ) -> Result<(), AllocError>
-    ensures put { OnOk result (map entry_named items.new.items ≡ insert_entry text_cmp (map entry_named items.old.items) (bytes_of_type item.0) (plain_entry item.1)) }
+    ensures put { OnOk result (map entry_named items.new.items
+        ≡ insert_entry text_cmp (map entry_named items.old.items) (bytes_of_type item.0)
+        (plain_entry item.1)) }
     ensures unchanged { OnErr result (items.new.items ≡ items.old.items) }
 {
     let place = place_of(items.as_slice(), &item.0);
@@ -100,7 +103,8 @@ pub(crate) fn put(
 
 // The place of the first entry whose type is not below this one, or the count of all.
 fn place_of(items: &[(EntityType, EntityEntry)], ety: &EntityType) -> usize
-    ensures place { result ≡ position_or_len (is_not_above (bytes_of_type ety.now)) (map entry_named items.now) }
+    ensures place { result
+        ≡ position_or_len (is_not_above (bytes_of_type ety.now)) (map entry_named items.now) }
     ensures bound { result ≤ length items.now }
 {
     let mut place = 0;

@@ -1,10 +1,11 @@
 // What a schema says of its entity types.
-ghost use Rattle.std.specs.Prelude.{◌≡◌, [], IfOk, IsTrue, OnErr, OnOk, bytes_eq, length, map, option_map};
+ghost use Rattle.std.specs.Prelude.{◌≡◌, [], IfOk, IsTrue, OnErr, OnOk, bytes_eq, length, map};
+ghost use Rattle.std.specs.Prelude.{option_map};
 ghost use Rattle.law_terms.specs.ValueOrder.{ascends, text_cmp};
-ghost use Rattle.smt_types.specs.Entities.{bytes_of_type};
+ghost use Rattle.smt_term.specs.Entities.{bytes_of_type};
 
 use crate::entries::{EntityEntry, put};
-use smt_types::{EntityType, TermError};
+use smt_term::{EntityType, TermError};
 use std::alloc::{AllocError, Global};
 
 /// What a schema says of its entity types: pairs in the order of the types' bytes, each type once.
@@ -35,7 +36,9 @@ impl EntryMap {
     /// Want of memory. The map stays as it is.
     #[tactic(auto, using(crate::proofs::PutEntry::ascends_put))]
     pub fn push(&mut self, item: (EntityType, EntityEntry)) -> Result<(), AllocError>
-        ensures put { OnOk result (plain_entries self.new ≡ insert_entry text_cmp (plain_entries self.old) (bytes_of_type item.0) (plain_entry item.1)) }
+        ensures put { OnOk result (plain_entries self.new
+            ≡ insert_entry text_cmp (plain_entries self.old) (bytes_of_type item.0)
+            (plain_entry item.1)) }
         ensures unchanged { OnErr result (plain_entries self.new ≡ plain_entries self.old) }
     {
         put(&mut self.items, item)
@@ -58,7 +61,8 @@ impl EntryMap {
 
     /// What is said of an entity type, or `None` exactly where the map does not have the type.
     pub fn get(&self, ety: &EntityType) -> Option<&EntityEntry>
-        ensures { option_map (λ entry. plain_entry entry.now) result ≡ lookup (bytes_eq (bytes_of_type ety.now)) (plain_entries self.now) }
+        ensures { option_map (λ entry. plain_entry entry.now) result
+            ≡ lookup (bytes_eq (bytes_of_type ety.now)) (plain_entries self.now) }
     {
         for (name, entry) in self.items.as_slice() {
             if ety == name {

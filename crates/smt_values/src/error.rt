@@ -1,8 +1,8 @@
 // Why a value has no term.
-#![tactic(auto, using(smt_cedar::specs::TypeView::cedar_views, smt_cedar::specs::ValueView::value_views, smt_term::specs::View::views))]
+#![tactic(auto, using(crate::specs::TypeView::cedar_views, crate::specs::ValueView::value_views, smt_term::specs::View::views))]
 
-use smt_cedar::{CompileError, ExtError, Value};
-use smt_types::TermError;
+use crate::{CompileError, ExtError, Value};
+use smt_term::TermError;
 use std::alloc::{AllocError, AllocFailed};
 use thiserror::Error;
 

@@ -1,29 +1,29 @@
 // The terms that stand for Cedar's values.
-#![tactic(auto, using(smt_cedar::specs::TypeView::cedar_views, smt_cedar::specs::ValueView::value_views, smt_term::specs::View::views))]
+#![tactic(auto, using(crate::specs::TypeView::cedar_views, crate::specs::ValueView::value_views, smt_term::specs::View::views))]
 
 ghost use Rattle.std.specs.Prelude.{◌≡◌, IfErr, IfOk, Ok, map, option_map};
 ghost use Rattle.std.specs.Rc.{rc_str_bytes};
-ghost use Rattle.smt_term.specs.View.{plain_field, plain_term};
-ghost use Rattle.smt_cedar.specs.Cedar.{ClosedRecordType};
-ghost use Rattle.smt_cedar.specs.TypeView.{plain_cedar, plain_cedar_attributes, record_with, set_with};
-ghost use Rattle.smt_cedar.specs.Constructors.{value_of_value};
-ghost use Rattle.smt_cedar.specs.Plain.{RecordValue, SetValue, values, value_fields};
-ghost use Rattle.smt_cedar.specs.ValueView.{named_fields, plain_literal, plain_value_of, values_held};
+ghost use Rattle.smt_term.specs.View.{BuildsTerm, plain_field, plain_term, plain_terms};
+ghost use Rattle.smt_values.specs.Cedar.{ClosedRecordType};
+ghost use Rattle.smt_values.specs.TypeView.{plain_cedar, plain_cedar_attributes, record_with};
+ghost use Rattle.smt_values.specs.TypeView.{set_with};
+ghost use Rattle.smt_values.specs.Constructors.{value_of_value};
+ghost use Rattle.smt_values.specs.PlainValues.{RecordValue, SetValue, values, value_fields};
+ghost use Rattle.smt_values.specs.ValueView.{named_fields, plain_literal, plain_value_of};
+ghost use Rattle.smt_values.specs.ValueView.{values_held};
 ghost use Rattle.smt_values.specs.Refused.{IsGiven, IsNoTerm, IsRefusal};
 ghost use Rattle.smt_values.specs.TermOfValue as stated;
 ghost use Rattle.smt_values.specs.TermOfValue.{literal_term, term_of_value};
 
 use crate::error::SymbolizeError;
-use smt_cedar::{
+use crate::{
     AttributeType, Attributes, CedarType, ExtFromCedar, Literal, OfType, OpenTag, Value, ValueList,
     ValueMap,
 };
 use smt_ext::Ext;
-use smt_factory_bits::{none_of, some_of};
-use smt_factory_core::{record_of, set_of};
-use smt_term::{Term, TermType};
+use smt_factory_core::{none_of, record_of, set_of, some_of};
+use smt_term::{Attr, Term, TermError, TermType};
 use smt_text::share_text;
-use smt_types::{Attr, TermError};
 use std::alloc::Global;
 use std::rc::Rc;
 
@@ -34,7 +34,7 @@ pub trait FromCedar {
     /// # Errors
     /// `Memory`, where there is none for the term.
     fn from_literal(l: &Literal) -> Result<Term, TermError>
-        ensures { IfOk result (λ t. plain_term t ≡ literal_term (plain_literal l.now)) };
+        ensures { BuildsTerm result (literal_term (plain_literal l.now)) };
 
     /// The term that stands for a value at a type.
     ///
@@ -47,8 +47,7 @@ pub trait FromCedar {
     ///
     /// ```
     /// use kembura::Term;
-    /// use kembura::cedar::{CedarType, Literal, Value};
-    /// use kembura::values::FromCedar;
+    /// use kembura::values::{CedarType, FromCedar, Literal, Value};
     ///
     /// let ten = Value::Lit(Literal::Long(10));
     /// let term = Term::from_value(alloc, &ten, &CedarType::Long)?;
@@ -63,8 +62,10 @@ pub trait FromCedar {
     /// that its type requires.
     /// `Memory`, where there is none for the term or the refusal.
     fn from_value(alloc: Global, v: &Value, ty: &CedarType) -> Result<Term, SymbolizeError>
-        ensures given { IfOk result (λ t. term_of_value (plain_cedar ty.now) (plain_value_of v.now) ≡ Ok (plain_term t)) }
-        ensures refused { IfErr result (λ e. IsRefusal e (term_of_value (plain_cedar ty.now) (plain_value_of v.now))) };
+        ensures given { IfOk result
+            (λ t. term_of_value (plain_cedar ty.now) (plain_value_of v.now) ≡ Ok (plain_term t)) }
+        ensures refused { IfErr result
+            (λ e. IsRefusal e (term_of_value (plain_cedar ty.now) (plain_value_of v.now))) };
 }
 
 impl FromCedar for Term {
@@ -84,7 +85,8 @@ impl FromCedar for Term {
 
 /// The value of an attribute, where the record has it.
 fn field_named<'a>(fields: &'a ValueMap, name: &Attr) -> Option<&'a Value>
-    ensures { option_map (λ v. plain_value_of v.now) result ≡ stated.field_named (rc_str_bytes name.now) (value_fields (named_fields fields.now)) }
+    ensures { option_map (λ v. plain_value_of v.now) result
+        ≡ stated.field_named (rc_str_bytes name.now) (value_fields (named_fields fields.now)) }
 {
     for (other, value) in fields.items() {
         if name == other {
@@ -116,7 +118,8 @@ fn no_record(fields: &ValueMap) -> SymbolizeError
 
 /// The term of a value that is to be one of an extension type.
 fn extension_term(alloc: Global, v: &Value) -> Result<Term, SymbolizeError>
-    ensures { IsGiven plain_term result (stated.extension_term (plain_value_of v.now) (value_of_value (plain_value_of v.now))) }
+    ensures { IsGiven plain_term result
+        (stated.extension_term (plain_value_of v.now) (value_of_value (plain_value_of v.now))) }
 {
     Ok(Term::from(Ext::try_from_value(alloc, v)?))
 }
@@ -128,7 +131,9 @@ fn element_terms(
     element: &CedarType,
     elements: &[Value],
 ) -> Result<Vec<Term>, SymbolizeError>
-    ensures { IsGiven (λ terms. map plain_term terms.items) result (stated.terms_of_elements (term_of_value (plain_cedar element.now)) (values (map plain_value_of elements.now))) }
+    ensures { IsGiven (λ terms. plain_terms terms.items) result
+        (stated.terms_of_elements (term_of_value (plain_cedar element.now))
+        (values (map plain_value_of elements.now))) }
 {
     let mut terms: Vec<Term> = Vec::new(alloc);
     for v in elements {
@@ -144,7 +149,8 @@ fn set_term(
     element: &Option<Rc<CedarType>>,
     elements: &ValueList,
 ) -> Result<Term, SymbolizeError>
-    ensures { IsGiven plain_term result (term_of_value (set_with element.now) (SetValue (values (map plain_value_of (values_held elements.now))))) }
+    ensures { IsGiven plain_term result (term_of_value (set_with element.now)
+        (SetValue (values (map plain_value_of (values_held elements.now))))) }
 {
     match element {
         Some(element) => {
@@ -158,7 +164,7 @@ fn set_term(
 
 /// The term of an attribute that a record has: some of it, where the type does not require the attribute.
 fn held(alloc: Global, is_required: bool, term: Term) -> Result<Term, TermError>
-    ensures { IfOk result (λ t. plain_term t ≡ stated.term_held is_required (plain_term term)) }
+    ensures { BuildsTerm result (stated.term_held is_required (plain_term term)) }
 {
     if is_required {
         Ok(term)
@@ -169,7 +175,8 @@ fn held(alloc: Global, is_required: bool, term: Term) -> Result<Term, TermError>
 
 /// The term of an attribute that a record lacks: none, where the type does not require it.
 fn lacked(alloc: Global, ty: &AttributeType, fields: &ValueMap) -> Result<Term, SymbolizeError>
-    ensures { IsGiven plain_term result (stated.term_lacked ty.now.is_required (plain_cedar ty.now.attr_type) (value_fields (named_fields fields.now))) }
+    ensures { IsGiven plain_term result (stated.term_lacked ty.now.is_required
+        (plain_cedar ty.now.attr_type) (value_fields (named_fields fields.now))) }
 {
     if ty.is_required {
         Err(no_record(fields))
@@ -186,7 +193,10 @@ fn attribute_term(
     name: &Attr,
     fields: &ValueMap,
 ) -> Result<Term, SymbolizeError>
-    ensures { IsGiven plain_term result (stated.term_of_attribute (term_of_value (plain_cedar ty.now.attr_type)) (plain_cedar ty.now.attr_type) ty.now.is_required (value_fields (named_fields fields.now)) (stated.field_named (rc_str_bytes name.now) (value_fields (named_fields fields.now)))) }
+    ensures { IsGiven plain_term result (stated.term_of_attribute
+        (term_of_value (plain_cedar ty.now.attr_type)) (plain_cedar ty.now.attr_type)
+        ty.now.is_required (value_fields (named_fields fields.now))
+        (stated.field_named (rc_str_bytes name.now) (value_fields (named_fields fields.now)))) }
 {
     match field_named(fields, name) {
         Some(v) => {
@@ -204,7 +214,9 @@ fn attribute_terms(
     attrs: &Attributes,
     fields: &ValueMap,
 ) -> Result<Vec<(Attr, Term)>, SymbolizeError>
-    ensures { IsGiven (λ pairs. map plain_field pairs.items) result (stated.terms_of_attributes (plain_cedar_attributes attrs.now) (value_fields (named_fields fields.now))) }
+    ensures { IsGiven (λ pairs. map plain_field pairs.items) result
+        (stated.terms_of_attributes (plain_cedar_attributes attrs.now)
+        (value_fields (named_fields fields.now))) }
 {
     let mut pairs: Vec<(Attr, Term)> = Vec::new(alloc);
     for (name, ty) in attrs.items() {
@@ -222,7 +234,9 @@ fn record_term(
     open_attributes: OpenTag,
     fields: &ValueMap,
 ) -> Result<Term, SymbolizeError>
-    ensures { IsGiven plain_term result (term_of_value (record_with open_attributes (plain_cedar_attributes attrs.now)) (RecordValue (value_fields (named_fields fields.now)))) }
+    ensures { IsGiven plain_term result (term_of_value
+        (record_with open_attributes (plain_cedar_attributes attrs.now))
+        (RecordValue (value_fields (named_fields fields.now)))) }
 {
     match open_attributes {
         OpenTag::OpenAttributes => Err(no_record(fields)),
@@ -236,7 +250,8 @@ fn record_term(
 /// The term of a set at a type.
 #[cycle(term_of)]
 fn term_of_set(alloc: Global, ty: &CedarType, elements: &ValueList) -> Result<Term, SymbolizeError>
-    ensures { IsGiven plain_term result (term_of_value (plain_cedar ty.now) (SetValue (values (map plain_value_of (values_held elements.now))))) }
+    ensures { IsGiven plain_term result (term_of_value (plain_cedar ty.now)
+        (SetValue (values (map plain_value_of (values_held elements.now))))) }
 {
     match ty {
         CedarType::Set { element_type } => set_term(alloc, element_type, elements),
@@ -253,7 +268,8 @@ fn term_of_set(alloc: Global, ty: &CedarType, elements: &ValueList) -> Result<Te
 /// The term of a record at a type.
 #[cycle(term_of)]
 fn term_of_record(alloc: Global, ty: &CedarType, fields: &ValueMap) -> Result<Term, SymbolizeError>
-    ensures { IsGiven plain_term result (term_of_value (plain_cedar ty.now) (RecordValue (value_fields (named_fields fields.now)))) }
+    ensures { IsGiven plain_term result (term_of_value (plain_cedar ty.now)
+        (RecordValue (value_fields (named_fields fields.now)))) }
 {
     match ty {
         CedarType::Record {
@@ -273,7 +289,8 @@ fn term_of_record(alloc: Global, ty: &CedarType, fields: &ValueMap) -> Result<Te
 /// The term of a value at a type.
 #[cycle(term_of)]
 fn term_of(alloc: Global, ty: &CedarType, v: &Value) -> Result<Term, SymbolizeError>
-    ensures { IsGiven plain_term result (term_of_value (plain_cedar ty.now) (plain_value_of v.now)) }
+    ensures { IsGiven plain_term result
+        (term_of_value (plain_cedar ty.now) (plain_value_of v.now)) }
 {
     match v {
         Value::Lit(literal) => Ok(Term::from_literal(literal)?),
@@ -292,7 +309,9 @@ pub fn from_record(
     fields: &ValueMap,
     attrs: &Attributes,
 ) -> Result<Term, SymbolizeError>
-    ensures { IsGiven plain_term result (term_of_value (ClosedRecordType (plain_cedar_attributes attrs.now)) (RecordValue (value_fields (named_fields fields.now)))) }
+    ensures { IsGiven plain_term result (term_of_value
+        (ClosedRecordType (plain_cedar_attributes attrs.now))
+        (RecordValue (value_fields (named_fields fields.now)))) }
 {
     record_term(alloc, attrs, OpenTag::ClosedAttributes, fields)
 }

@@ -1,9 +1,10 @@
 //! Laws of the definitions that the contracts cite, proved with no code.
-#![tactic(auto, using(smt_cedar::specs::TypeView::cedar_views, smt_cedar::specs::ValueView::value_views, smt_term::specs::View::views))]
+#![tactic(auto, using(crate::specs::TypeView::cedar_views, crate::specs::ValueView::value_views, smt_term::specs::View::views))]
 
-ghost use Rattle.smt_values.specs.StoreExamples.{SchemaExamples, StoreExamples};
-ghost use Rattle.smt_values.specs.StoreLaws.{EntriesAscend, PutEntityIsFound, PutEntryIsFound, StoresAreDistinct};
-ghost use Rattle.smt_values.specs.Examples.{PartExamples, RecordExamples, SetExamples};
+ghost use Rattle.smt_values.specs.StoreRows.{SchemaExamples, StoreExamples};
+ghost use Rattle.smt_values.specs.StoreLaws.{EntriesAscend, PutEntityIsFound, PutEntryIsFound};
+ghost use Rattle.smt_values.specs.StoreLaws.{StoresAreDistinct};
+ghost use Rattle.smt_values.specs.Rows.{PartExamples, RecordExamples, SetExamples};
 ghost use Rattle.smt_values.specs.Literals.{TermsAreLiterals};
 
 /// Stores after an entity was put into them, and request environments that are a schema's or are not.

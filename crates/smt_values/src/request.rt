@@ -1,13 +1,13 @@
 // Requests, the types that they are of, and the environments in which they are decided.
 ghost use Rattle.std.specs.Prelude.{◌≡◌};
-ghost use Rattle.smt_types.specs.Entities.{bytes_of_type};
+ghost use Rattle.smt_term.specs.Entities.{bytes_of_type};
 ghost use Rattle.smt_values.specs.Stores.{has_type, is_of_schema};
 ghost use Rattle.smt_values.specs.View.{plain_request_env, plain_schema, plain_types};
 
 use crate::schema::Schema;
 use crate::store::Entities;
-use smt_cedar::{EntityTypeList, ValueMap};
-use smt_types::{EntityType, EntityUID};
+use crate::{EntityTypeList, ValueMap};
+use smt_term::{EntityType, EntityUID};
 
 /// The types of a request's principal and resource, and its action.
 #[derive(Debug, PartialEq, Eq, Drop)]

@@ -2,11 +2,11 @@
 ghost use Rattle.std.specs.Prelude.{◌≡◌, [], IfOk, OnErr, OnOk, length, map, option_map};
 ghost use Rattle.std.proofs.Props.{props};
 ghost use Rattle.std.specs.List.{IsDistinct};
-ghost use Rattle.smt_types.specs.Entities.{texts_of_entity};
+ghost use Rattle.smt_term.specs.Entities.{texts_of_entity};
 ghost use Rattle.smt_values.specs.Uids.{same_uid};
 
 use crate::entity::{Entity, put};
-use smt_types::{EntityUID, TermError};
+use smt_term::{EntityUID, TermError};
 use std::alloc::{AllocError, Global};
 
 /// Stored entities, in the order in which they first came, one of each uid.
@@ -36,7 +36,8 @@ impl Entities {
     /// Want of memory. The store stays as it is.
     #[tactic(auto, using(crate::proofs::PutEntity::distinct_entities))]
     pub fn push(&mut self, item: Entity) -> Result<(), AllocError>
-        ensures put { OnOk result (plain_entities self.new ≡ put_entity (plain_stored item) (plain_entities self.old)) }
+        ensures put { OnOk result
+            (plain_entities self.new ≡ put_entity (plain_stored item) (plain_entities self.old)) }
         ensures unchanged { OnErr result (plain_entities self.new ≡ plain_entities self.old) }
     {
         put(&mut self.items, item)
@@ -59,7 +60,8 @@ impl Entities {
 
     /// The entity of a uid, or `None` exactly where the store has none.
     pub fn get(&self, uid: &EntityUID) -> Option<&Entity>
-        ensures { option_map (λ entity. plain_stored entity.now) result ≡ entity_of (plain_entities self.now) (texts_of_entity uid.now) }
+        ensures { option_map (λ entity. plain_stored entity.now) result
+            ≡ entity_of (plain_entities self.now) (texts_of_entity uid.now) }
     {
         for entity in self.items.as_slice() {
             if entity.uid == *uid {

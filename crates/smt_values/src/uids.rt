@@ -1,9 +1,9 @@
 // Lists of entities' names.
 ghost use Rattle.std.specs.Prelude.{◌≡◌, ◌++◌, ◌∷◌, [], IfOk, OnErr, OnOk, length, map};
-ghost use Rattle.smt_types.specs.Entities.{texts_of_entity};
+ghost use Rattle.smt_term.specs.Entities.{texts_of_entity};
 ghost use Rattle.smt_values.specs.View.{plain_uids, uids_held};
 
-use smt_types::{EntityUID, TermError};
+use smt_term::{EntityUID, TermError};
 use std::alloc::{AllocError, Global};
 
 /// A list of entities, such as the ancestors of one, in the order in which they were given.
@@ -27,7 +27,8 @@ impl UidList {
     /// # Errors
     /// Want of memory. The list stays as it is.
     pub fn push(&mut self, item: EntityUID) -> Result<(), AllocError>
-        ensures pushed { OnOk result (plain_uids self.new ≡ plain_uids self.old ++ texts_of_entity item ∷ []) }
+        ensures pushed { OnOk result
+            (plain_uids self.new ≡ plain_uids self.old ++ texts_of_entity item ∷ []) }
         ensures unchanged { OnErr result (plain_uids self.new ≡ plain_uids self.old) }
     {
         self.items.push(item)?;

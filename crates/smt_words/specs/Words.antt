@@ -22,7 +22,8 @@ AreArguments arguments xs = Drains into_iter_steps arguments xs
 -- The system answered arguments, or an error, which is of the kind InvalidData where an argument is not UTF-8. The words are the
 -- arguments behind the first one, which is the program's name; that no argument is text is told, and nothing else is told so.
 abbrev pub Reads : Result (IntoIter (String Global) Global) Error → Result (Vec (RcStr Global) Global) WordsError → Type 0
-Reads (Ok arguments) (Ok words) = (xs : List (String Global)) × AreArguments arguments xs × (texts words.items ≡ drop 1 (map string_bytes xs))
+Reads (Ok arguments) (Ok words) =
+    (xs : List (String Global)) × AreArguments arguments xs × (texts words.items ≡ drop 1 (map string_bytes xs))
 Reads (Ok arguments) (Err NotText) = ⊥
 Reads (Ok arguments) (Err Memory) = Unit {0}
 Reads (Err error) (Ok words) = ⊥

@@ -1,7 +1,8 @@
 //! Sums, products, quotients and remainders of the theory FixedSizeBitVectors and of the logic QF_BV.
 ghost use Rattle.std.specs.Prelude.{◌≡◌, IfOk, IfErr, OnOk};
 ghost use Rattle.smt_bits.specs.BitVec.{width_of, number_of, IsMismatch};
-ghost use Rattle.law_numbers.specs.BitVectors.{magnitude, negated_if, bvadd, bvsub, bvmul, bvudiv, bvurem, bvsdiv, bvsrem, bvsmod};
+ghost use Rattle.law_numbers.specs.BitVectors.{magnitude, negated_if, bvadd, bvsub, bvmul, bvudiv};
+ghost use Rattle.law_numbers.specs.BitVectors.{bvurem, bvsdiv, bvsrem, bvsmod};
 
 use super::BitVec;
 use crate::error::{BitVecError, BvCall};

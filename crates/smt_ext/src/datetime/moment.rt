@@ -1,7 +1,9 @@
 //! The moment that the numbers of a datetime's text name.
 ghost use Rattle.std.specs.Prelude.{◌≡◌, ◌<◌, ℤ, pos, neg_ℤ, ◌≤ℤ◌, IfSome, IfNone};
 ghost use Rattle.law_numbers.specs.Longs.{IsLong};
-ghost use Rattle.smt_ext.specs.DatetimeText.{DayFits, ZoneFits, ClockFits, is_far, is_barred, is_time, IsRealDay, IsReal, IsDayNumber, zone_offset, clock_value, IsStampValue};
+ghost use Rattle.smt_ext.specs.DatetimeText.{DayFits, ZoneFits, ClockFits, is_far, is_barred};
+ghost use Rattle.smt_ext.specs.DatetimeText.{is_time, IsRealDay, IsReal, IsDayNumber};
+ghost use Rattle.smt_ext.specs.DatetimeText.{zone_offset, clock_value, IsStampValue};
 
 use super::MILLISECONDS_PER_DAY;
 use super::stamp::{Clock, Day, Stamp, Zone};

@@ -1,11 +1,15 @@
 //! The sum of the parts that stand in a duration's text.
-ghost use Rattle.std.specs.Prelude.{◌≡◌, ℕ, ◌+◌, ◌*◌, ◌<◌, ◌∷◌, List, IsTrue, IfOk, IfErr, IfSome, IfNone};
+ghost use Rattle.std.specs.Prelude.{◌≡◌, ℕ, ◌+◌, ◌*◌, ◌<◌, ◌∷◌, List, IsTrue, IfOk, IfErr, IfSome};
+ghost use Rattle.std.specs.Prelude.{IfNone};
 ghost use Rattle.std.specs.List.{list_all};
 ghost use Rattle.std.specs.Option.{SomeIff};
 ghost use Rattle.law_texts.specs.Characters.{is_digit};
 ghost use Rattle.law_texts.specs.Digits.{decimal_number, signed_number};
 ghost use Rattle.law_numbers.specs.Longs.{IsLong};
-ghost use Rattle.smt_ext.specs.DurationRefusal.{unit_name, unit_milliseconds, EndsInPart, HasNoPart, ends_past_ascii, IsSoundPart, IsPartFault, IsFirstFault, HasSum, all_units, HasFault};
+ghost use Rattle.smt_ext.specs.DurationRefusal.{unit_name, unit_milliseconds, EndsInPart};
+ghost use Rattle.smt_ext.specs.DurationRefusal.{HasNoPart, ends_past_ascii, IsSoundPart};
+ghost use Rattle.smt_ext.specs.DurationRefusal.{IsPartFault, IsFirstFault, HasSum, all_units};
+ghost use Rattle.smt_ext.specs.DurationRefusal.{HasFault};
 ghost use Rattle.smt_ext.specs.DurationText.{IsDurationText};
 
 use smt_text::digits;
@@ -89,8 +93,10 @@ fn ends_outside_ascii(text: &[u8]) -> bool
 fn milliseconds_of(negative: bool, unit: TimeUnit, digits: &[u8]) -> Option<u64>
     requires { IsTrue (list_all is_digit digits.now) }
     ensures value { IfSome result (λ n. n ≡ decimal_number digits.now * unit_milliseconds unit) }
-    ensures fits { IfSome result (λ n. IsLong (signed_number negative (decimal_number digits.now * unit_milliseconds unit))) }
-    ensures none { IfNone result (IsLong (signed_number negative (decimal_number digits.now * unit_milliseconds unit)) → ⊥) }
+    ensures fits { IfSome result (λ n.
+        IsLong (signed_number negative (decimal_number digits.now * unit_milliseconds unit))) }
+    ensures none { IfNone result
+        (IsLong (signed_number negative (decimal_number digits.now * unit_milliseconds unit)) → ⊥) }
 {
     let magnitude = digits::number(digits)?.checked_mul(unit.milliseconds())?;
     digits::with_sign(negative, magnitude)?;
@@ -123,7 +129,8 @@ fn take_part(negative: bool, unit: TimeUnit, text: &[u8]) -> Result<(u64, &[u8])
         → HasSum negative units x.1.now n → HasSum negative (unit ∷ units) text.now (n + x.0)) }
     ensures later { IfOk result (λ x. (units : List TimeUnit) (f : Fault)
         → IsFirstFault negative units x.1.now f → IsFirstFault negative (unit ∷ units) text.now f) }
-    ensures fault { IfErr result (λ f. (units : List TimeUnit) → IsFirstFault negative (unit ∷ units) text.now f) }
+    ensures fault { IfErr result
+        (λ f. (units : List TimeUnit) → IsFirstFault negative (unit ∷ units) text.now f) }
 {
     match split_part(text, unit) {
         None => Ok((0, text)),
@@ -155,7 +162,8 @@ fn sum_of_parts(negative: bool, text: &[u8]) -> Result<u128, Fault>
 
 // The sum with its sign, where it fits 64 bits.
 fn signed_sum(negative: bool, total: u128) -> Option<i64>
-    ensures { SomeIff result (IsLong (signed_number negative total)) (signed_number negative total) }
+    ensures { SomeIff result (IsLong (signed_number negative total))
+        (signed_number negative total) }
 {
     digits::with_sign(negative, u64::try_from(total).ok()?)
 }

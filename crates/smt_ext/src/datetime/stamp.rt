@@ -3,7 +3,8 @@
 
 ghost use Rattle.std.specs.Prelude.{◌≡◌, ◌≤◌};
 ghost use Rattle.law_texts.specs.Front.{ReadsTo};
-ghost use Rattle.smt_ext.specs.DatetimeReading.{field_at, day_at, offset_at, zone_at, fraction_at, clock_at, stamp_at};
+ghost use Rattle.smt_ext.specs.DatetimeReading.{field_at, day_at, offset_at, zone_at, fraction_at};
+ghost use Rattle.smt_ext.specs.DatetimeReading.{clock_at, stamp_at};
 
 use smt_text::digits;
 

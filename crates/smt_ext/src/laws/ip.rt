@@ -1,7 +1,7 @@
 //! Laws of IP ranges: their texts, and chosen ranges.
 ghost use Rattle.std.specs.Prelude.{◌≡◌, ◌↔◌, ℕ, List, IsTrue};
 ghost use Rattle.smt_ext.specs.declared.net.IPNet.{IPNet as Net};
-ghost use Rattle.smt_ext.specs.IpExamples.{IpRows};
+ghost use Rattle.smt_ext.specs.IpRows.{IpRows};
 ghost use Rattle.smt_ext.specs.IpOrder.{prefix_cmp, range_cmp};
 ghost use Rattle.smt_ext.specs.declared.prefix.IPv4Prefix.{IPv4Prefix as ShortPrefix};
 ghost use Rattle.smt_ext.specs.declared.prefix.IPv6Prefix.{IPv6Prefix as LongPrefix};
@@ -31,13 +31,16 @@ pub fn printed_text_is_read()
 
 /// Prefixes are ordered by their number of bits, no prefix last.
 pub fn prefixes_are_ordered()
-    ensures short { (p q : ShortPrefix) → ⟦<IPv4Prefix as Ord>⟧.cmp p q ≡ prefix_cmp (v4_prefix p) (v4_prefix q) }
-    ensures long { (p q : LongPrefix) → ⟦<IPv6Prefix as Ord>⟧.cmp p q ≡ prefix_cmp (v6_prefix p) (v6_prefix q) }
+    ensures short { (p q : ShortPrefix) →
+        ⟦<IPv4Prefix as Ord>⟧.cmp p q ≡ prefix_cmp (v4_prefix p) (v4_prefix q) }
+    ensures long { (p q : LongPrefix) →
+        ⟦<IPv6Prefix as Ord>⟧.cmp p q ≡ prefix_cmp (v6_prefix p) (v6_prefix q) }
 {}
 
 /// Ranges are ordered by family, address and prefix, and are equal where all three are.
 pub fn ranges_are_ordered()
     ensures order { (a b : Net) → ⟦<IPNet as Ord>⟧.cmp a b ≡ range_cmp (range_of a) (range_of b) }
-    ensures equality { (a b : Net) → IsTrue (⟦<IPNet as PartialEq>⟧.eq a b) ↔ (range_of a ≡ range_of b) }
+    ensures equality { (a b : Net) →
+        IsTrue (⟦<IPNet as PartialEq>⟧.eq a b) ↔ (range_of a ≡ range_of b) }
     ensures one { (a b : Net) → range_of a ≡ range_of b → a ≡ b }
 {}

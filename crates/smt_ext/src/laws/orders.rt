@@ -36,8 +36,12 @@ pub fn equality_is_decided()
 
 /// Values that are equal write the same to a hasher.
 pub fn equal_values_write_the_same()
-    ensures decimals { (a b : Number) → IsTrue (⟦<Decimal as PartialEq>⟧.eq a b) → ⟦<Decimal as Hash>⟧.hash_input a ≡ ⟦<Decimal as Hash>⟧.hash_input b }
-    ensures datetimes { (a b : Moment) → IsTrue (⟦<Datetime as PartialEq>⟧.eq a b) → ⟦<Datetime as Hash>⟧.hash_input a ≡ ⟦<Datetime as Hash>⟧.hash_input b }
-    ensures durations { (a b : Span) → IsTrue (⟦<Duration as PartialEq>⟧.eq a b) → ⟦<Duration as Hash>⟧.hash_input a ≡ ⟦<Duration as Hash>⟧.hash_input b }
-    ensures values { (a b : Value) → IsTrue (⟦<Ext as PartialEq>⟧.eq a b) → ⟦<Ext as Hash>⟧.hash_input a ≡ ⟦<Ext as Hash>⟧.hash_input b }
+    ensures decimals { (a b : Number) → IsTrue (⟦<Decimal as PartialEq>⟧.eq a b) →
+        ⟦<Decimal as Hash>⟧.hash_input a ≡ ⟦<Decimal as Hash>⟧.hash_input b }
+    ensures datetimes { (a b : Moment) → IsTrue (⟦<Datetime as PartialEq>⟧.eq a b) →
+        ⟦<Datetime as Hash>⟧.hash_input a ≡ ⟦<Datetime as Hash>⟧.hash_input b }
+    ensures durations { (a b : Span) → IsTrue (⟦<Duration as PartialEq>⟧.eq a b) →
+        ⟦<Duration as Hash>⟧.hash_input a ≡ ⟦<Duration as Hash>⟧.hash_input b }
+    ensures values { (a b : Value) → IsTrue (⟦<Ext as PartialEq>⟧.eq a b) →
+        ⟦<Ext as Hash>⟧.hash_input a ≡ ⟦<Ext as Hash>⟧.hash_input b }
 {}

@@ -3,7 +3,7 @@ use Rattle.law_terms.specs.Plain.{RecordType, attribute_types, record_fields}
 use Rattle.law_terms.specs.Types.{field_types, type_of}
 use Rattle.smt_term.specs.View.{plain_attributes, plain_fields, plain_term, plain_type}
 use Rattle.smt_term.proofs.RecordFields.{alike_next, alike_none, alike_types-are, other_name, other_type, unequal}
-use Rattle.smt_types.proofs.SameType.{type_eq-turned}
+use Rattle.smt_term.proofs.SameType.{type_eq-turned}
 use Rattle.smt_term.proofs.+of_type.Goals as goal
 
 pub maps::TermMap::is_of_types-returns-then-fields-types-clause-same : goal.maps::TermMap::is_of_types-returns-then-fields-types-clause-same

@@ -4,7 +4,7 @@ use Rattle.kembura.specs.Differences.{AreRelated}
 use Rattle.kembura.specs.InHand.{AreNeverTrue}
 use Rattle.kembura.specs.Plain.{BoolType, PlainTerm}
 use Rattle.kembura.specs.TermView.{plain_term}
-use Rattle.kembura.specs.TypesEnums.{enums_of}
+use Rattle.kembura.specs.TermEnums.{enums_of}
 use Rattle.kembura.specs.Typing.{Typed}
 use Rattle.kembura_uses.proofs.compare.compare.Goals as goal
 

@@ -7,7 +7,7 @@ use Rattle.kembura.specs.Formed.{IsFormed}
 use Rattle.kembura.specs.Memory.{list_bytes}
 use Rattle.kembura.specs.TermView.{plain_term}
 use Rattle.kembura.specs.Text.{text}
-use Rattle.kembura.specs.TypesEnums.{enums_of}
+use Rattle.kembura.specs.TermEnums.{enums_of}
 use Rattle.smt_term.specs.declared.term.Term.{Term}
 use Rattle.kembura_uses.proofs.decide.decide.Goals as goal
 

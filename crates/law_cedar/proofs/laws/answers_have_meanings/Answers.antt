@@ -1,4 +1,4 @@
-use Rattle.smt_cedar.specs.ValueView.{plain_value_of}
+use Rattle.smt_values.specs.ValueView.{plain_value_of}
 use Rattle.law_cedar.proofs.Answers.{answer_has_meaning}
 use Rattle.law_cedar.proofs.laws.answers_have_meanings.Goals as goal
 

@@ -1,4 +1,4 @@
-use Rattle.law_cedar.proofs.Examples.{faults, tables}
+use Rattle.law_cedar.proofs.Rows.{faults, tables}
 use Rattle.law_cedar.proofs.laws.environments_by_example.Goals as goal
 
 pub returns-clause-tables : goal.returns-clause-tables

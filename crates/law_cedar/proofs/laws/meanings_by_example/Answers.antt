@@ -1,4 +1,4 @@
-use Rattle.law_cedar.proofs.ValueExamples as examples
+use Rattle.law_cedar.proofs.ValueRows as examples
 use Rattle.law_cedar.proofs.laws.meanings_by_example.Goals as goal
 
 pub returns-clause-meanings : goal.returns-clause-meanings

@@ -1,4 +1,4 @@
-use Rattle.law_extensions.proofs.TextExamples as examples
+use Rattle.law_extensions.proofs.TextRows as examples
 use Rattle.law_extensions.proofs.laws.texts_by_example.Goals as goal
 
 pub returns : goal.returns

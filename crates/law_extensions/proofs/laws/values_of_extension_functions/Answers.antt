@@ -1,4 +1,4 @@
-use Rattle.law_extensions.proofs.Examples.{containment_examples, rule_examples, time_examples}
+use Rattle.law_extensions.proofs.Rows.{containment_examples, rule_examples, time_examples}
 use Rattle.law_extensions.proofs.laws.values_of_extension_functions.Goals as goal
 
 pub returns : goal.returns

@@ -1,7 +1,7 @@
 use Rattle.std.proofs.Common.{arith, refl, rules, sym}
 use Rattle.std.proofs.lemmas.Bool.{false≢true}
 use Rattle.std.specs.Str.{chars}
-use Rattle.law_terms.specs.Examples.{TypeRows, ValueRows, ReachedRows}
+use Rattle.law_terms.specs.Rows.{TypeRows, ValueRows, ReachedRows}
 use Rattle.law_terms.proofs.laws.term_rows.Goals as goal
 
 types : TypeRows

@@ -1,4 +1,4 @@
-use Rattle.law_verdicts.proofs.Rows as laws
+use Rattle.law_verdicts.proofs.TruthRows as laws
 use Rattle.law_verdicts.proofs.laws.rows_stand_alone.Goals as goal
 
 pub returns : goal.returns

@@ -1,7 +1,7 @@
 use Rattle.std.proofs.Common.{List, subst, sym}
 use Rattle.std.specs.Prelude.{IfErr, OnOk}
 use Rattle.law_jobs.specs.Steps.{PlainStep}
-use Rattle.smt_types.specs.Enums.{enums_of}
+use Rattle.smt_term.specs.Enums.{enums_of}
 use Rattle.smt_script.specs.Sink.{Rose}
 use Rattle.smt_solve.specs.Starter.{command_of}
 use Rattle.smt_jobs.specs.StepView.{plain_section}

@@ -1,5 +1,5 @@
 use Rattle.std.proofs.Common.{◌≡◌}
-use Rattle.smt_job_declarations.specs.DeclarationView.{declarations}
+use Rattle.smt_job_terms.specs.DeclarationView.{declarations}
 use Rattle.smt_cli.specs.Generated.{variables_below}
 use Rattle.smt_cli.proofs.generate.variables.Given as goal
 

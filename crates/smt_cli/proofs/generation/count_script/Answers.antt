@@ -6,7 +6,7 @@ use Rattle.smt_script.specs.Count.{count_bytes}
 use Rattle.smt_jobs.specs.Numbered.{terms_begun}
 use Rattle.smt_jobs.proofs.NumberedLemmas.{stood_by}
 use Rattle.smt_encode.specs.Encoded.{enums_in, sink_of}
-use Rattle.smt_job_declarations.specs.DeclarationView.{declarations}
+use Rattle.smt_job_terms.specs.DeclarationView.{declarations}
 use Rattle.smt_cli.proofs.Summarizing.{all_counted, as_many_terms, only_memory, summed_up}
 use Rattle.smt_cli.proofs.generation.count_script.Goals as goal
 

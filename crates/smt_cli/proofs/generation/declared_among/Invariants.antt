@@ -1,7 +1,7 @@
 use Rattle.std.proofs.Common.{◌≡◌, ◌≤◌, take}
 use Rattle.std.specs.Prelude.{count_by}
 use Rattle.law_lines.specs.NameTables.{Tables}
-use Rattle.smt_job_declarations.specs.DeclarationView.{plain_declaration}
+use Rattle.smt_job_terms.specs.DeclarationView.{plain_declaration}
 use Rattle.smt_encode.specs.Encoded.{HasNames}
 use Rattle.smt_cli.specs.Generation.{is_declared}
 use Rattle.smt_cli.proofs.generation.declared_among.Given as goal

@@ -1,4 +1,4 @@
-use Rattle.smt_job_declarations.specs.DeclarationView.{declarations}
+use Rattle.smt_job_terms.specs.DeclarationView.{declarations}
 use Rattle.smt_jobs.specs.Numbered.{terms_begun}
 use Rattle.smt_cli.proofs.Conditions.{terms_faultless}
 use Rattle.smt_cli.proofs.generation.generated_summary.Goals as goal

@@ -1,7 +1,7 @@
 use Rattle.std.proofs.Common.{Result, subst, sym}
 use Rattle.law_terms.specs.Faults.{first_fault}
 use Rattle.law_jobs.specs.Steps.{asserted}
-use Rattle.smt_types.specs.Enums.{enums_of}
+use Rattle.smt_term.specs.Enums.{enums_of}
 use Rattle.smt_jobs.specs.Numbered.{numbered_steps}
 use Rattle.smt_script.specs.Sink.{Rose}
 use Rattle.smt_encode.specs.Refusals.{HasCause}

@@ -1,6 +1,6 @@
 use Rattle.std.proofs.Common.{◌≡◌, take}
 use Rattle.law_texts.specs.SharedTexts.{texts}
-use Rattle.smt_types.specs.Pairs.{attributes_in}
+use Rattle.smt_term.specs.Pairs.{attributes_in}
 use Rattle.smt_spelling.specs.Spelled.{AreSpelled}
 use Rattle.smt_encode.specs.Alone.{sorts_given}
 use Rattle.smt_encode.proofs.alone.attributes_and_sorts.Given as goal

@@ -1,7 +1,7 @@
 use Rattle.std.proofs.Common.{◌≡◌, rules}
 use Rattle.law_jobs.specs.Jobs.{built_job, job_of}
 use Rattle.law_jobs.specs.Outcomes.{mapped}
-use Rattle.smt_job_declarations.specs.declared.error.JobError.TheVariants.{Memory}
+use Rattle.smt_job_terms.specs.declared.error.JobError.TheVariants.{Memory}
 use Rattle.smt_sexpr.specs.View.{plain}
 use Rattle.smt_eval.proofs.Refused.{job_refused}
 use Rattle.smt_eval.proofs.input.job_in.Goals as goal

@@ -5,7 +5,7 @@ use Rattle.law_assignments.specs.Entries.{is_faultless_leaf}
 use Rattle.law_terms.specs.Plain.{Application, RecordTerm, SetTerm, SomeTerm, record_fields, terms}
 use Rattle.law_terms.specs.Reached.{subterms, subterms_of_fields}
 use Rattle.smt_term.specs.View.{plain_fields, plain_op, plain_term, plain_term-App, plain_term-Record, plain_term-Set, plain_term-Some, plain_type}
-use Rattle.smt_types.specs.Enums.{enums_of}
+use Rattle.smt_term.specs.Enums.{enums_of}
 use Rattle.smt_eval.proofs.Parts.{all_last, all_next_field, within, within_fields}
 use Rattle.smt_eval.proofs.values.+leaves.Goals as goal
 

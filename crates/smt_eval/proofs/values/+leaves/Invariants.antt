@@ -1,7 +1,7 @@
 use Rattle.std.proofs.Common.{◌≡◌, drop}
 use Rattle.std.specs.List.{list_all}
 use Rattle.law_assignments.specs.Entries.{is_faultless_leaf}
-use Rattle.smt_types.specs.Enums.{enums_of}
+use Rattle.smt_term.specs.Enums.{enums_of}
 use Rattle.smt_eval.proofs.Parts.{within, within_fields}
 use Rattle.smt_eval.proofs.values.+leaves.Given as goal
 

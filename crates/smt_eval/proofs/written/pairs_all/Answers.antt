@@ -1,7 +1,7 @@
 use Rattle.std.proofs.Common.{option_map, map, sym, ap, ◌∙◌}
 use Rattle.std.proofs.lemmas.List.{map-append}
 use Rattle.law_assignments.specs.Outcomes.{FormlessInput}
-use Rattle.law_jobs.specs.Parts.{pair_in}
+use Rattle.law_texts.specs.Parts.{pair_in}
 use Rattle.law_texts.specs.Outcomes.{demanded}
 use Rattle.smt_eval.specs.declared.error.EvalError.TheVariants.{BadForm}
 use Rattle.smt_eval.specs.WrittenView.{plain_pair}

@@ -1,5 +1,5 @@
 use Rattle.std.proofs.Common.{drop, map}
-use Rattle.law_jobs.specs.Parts.{pair_in}
+use Rattle.law_texts.specs.Parts.{pair_in}
 use Rattle.smt_eval.specs.WrittenView.{plain_pair}
 use Rattle.smt_eval.proofs.InputReading.{ReadingEach}
 use Rattle.smt_eval.proofs.written.pairs_all.Given as goal

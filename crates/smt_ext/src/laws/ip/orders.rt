@@ -37,10 +37,14 @@ pub fn orders_agree_with_equality()
 
 /// `==` holds exactly of one value and itself.
 pub fn equality_is_decided()
-    ensures v4_addresses { (a b : ShortAddress) → IsTrue (⟦<IPv4Addr as PartialEq>⟧.eq a b) ↔ (a ≡ b) }
-    ensures v6_addresses { (a b : LongAddress) → IsTrue (⟦<IPv6Addr as PartialEq>⟧.eq a b) ↔ (a ≡ b) }
-    ensures v4_prefixes { (a b : ShortPrefix) → IsTrue (⟦<IPv4Prefix as PartialEq>⟧.eq a b) ↔ (a ≡ b) }
-    ensures v6_prefixes { (a b : LongPrefix) → IsTrue (⟦<IPv6Prefix as PartialEq>⟧.eq a b) ↔ (a ≡ b) }
+    ensures v4_addresses { (a b : ShortAddress) →
+        IsTrue (⟦<IPv4Addr as PartialEq>⟧.eq a b) ↔ (a ≡ b) }
+    ensures v6_addresses { (a b : LongAddress) →
+        IsTrue (⟦<IPv6Addr as PartialEq>⟧.eq a b) ↔ (a ≡ b) }
+    ensures v4_prefixes { (a b : ShortPrefix) →
+        IsTrue (⟦<IPv4Prefix as PartialEq>⟧.eq a b) ↔ (a ≡ b) }
+    ensures v6_prefixes { (a b : LongPrefix) →
+        IsTrue (⟦<IPv6Prefix as PartialEq>⟧.eq a b) ↔ (a ≡ b) }
     ensures v4_ranges { (a b : ShortRange) → IsTrue (⟦<CIDRv4 as PartialEq>⟧.eq a b) ↔ (a ≡ b) }
     ensures v6_ranges { (a b : LongRange) → IsTrue (⟦<CIDRv6 as PartialEq>⟧.eq a b) ↔ (a ≡ b) }
     ensures ranges { (a b : Net) → IsTrue (⟦<IPNet as PartialEq>⟧.eq a b) ↔ (a ≡ b) }
@@ -48,11 +52,18 @@ pub fn equality_is_decided()
 
 /// Values that are equal write the same to a hasher.
 pub fn equal_values_write_the_same()
-    ensures v4_addresses { (a b : ShortAddress) → IsTrue (⟦<IPv4Addr as PartialEq>⟧.eq a b) → ⟦<IPv4Addr as Hash>⟧.hash_input a ≡ ⟦<IPv4Addr as Hash>⟧.hash_input b }
-    ensures v6_addresses { (a b : LongAddress) → IsTrue (⟦<IPv6Addr as PartialEq>⟧.eq a b) → ⟦<IPv6Addr as Hash>⟧.hash_input a ≡ ⟦<IPv6Addr as Hash>⟧.hash_input b }
-    ensures v4_prefixes { (a b : ShortPrefix) → IsTrue (⟦<IPv4Prefix as PartialEq>⟧.eq a b) → ⟦<IPv4Prefix as Hash>⟧.hash_input a ≡ ⟦<IPv4Prefix as Hash>⟧.hash_input b }
-    ensures v6_prefixes { (a b : LongPrefix) → IsTrue (⟦<IPv6Prefix as PartialEq>⟧.eq a b) → ⟦<IPv6Prefix as Hash>⟧.hash_input a ≡ ⟦<IPv6Prefix as Hash>⟧.hash_input b }
-    ensures v4_ranges { (a b : ShortRange) → IsTrue (⟦<CIDRv4 as PartialEq>⟧.eq a b) → ⟦<CIDRv4 as Hash>⟧.hash_input a ≡ ⟦<CIDRv4 as Hash>⟧.hash_input b }
-    ensures v6_ranges { (a b : LongRange) → IsTrue (⟦<CIDRv6 as PartialEq>⟧.eq a b) → ⟦<CIDRv6 as Hash>⟧.hash_input a ≡ ⟦<CIDRv6 as Hash>⟧.hash_input b }
-    ensures ranges { (a b : Net) → IsTrue (⟦<IPNet as PartialEq>⟧.eq a b) → ⟦<IPNet as Hash>⟧.hash_input a ≡ ⟦<IPNet as Hash>⟧.hash_input b }
+    ensures v4_addresses { (a b : ShortAddress) → IsTrue (⟦<IPv4Addr as PartialEq>⟧.eq a b) →
+        ⟦<IPv4Addr as Hash>⟧.hash_input a ≡ ⟦<IPv4Addr as Hash>⟧.hash_input b }
+    ensures v6_addresses { (a b : LongAddress) → IsTrue (⟦<IPv6Addr as PartialEq>⟧.eq a b) →
+        ⟦<IPv6Addr as Hash>⟧.hash_input a ≡ ⟦<IPv6Addr as Hash>⟧.hash_input b }
+    ensures v4_prefixes { (a b : ShortPrefix) → IsTrue (⟦<IPv4Prefix as PartialEq>⟧.eq a b) →
+        ⟦<IPv4Prefix as Hash>⟧.hash_input a ≡ ⟦<IPv4Prefix as Hash>⟧.hash_input b }
+    ensures v6_prefixes { (a b : LongPrefix) → IsTrue (⟦<IPv6Prefix as PartialEq>⟧.eq a b) →
+        ⟦<IPv6Prefix as Hash>⟧.hash_input a ≡ ⟦<IPv6Prefix as Hash>⟧.hash_input b }
+    ensures v4_ranges { (a b : ShortRange) → IsTrue (⟦<CIDRv4 as PartialEq>⟧.eq a b) →
+        ⟦<CIDRv4 as Hash>⟧.hash_input a ≡ ⟦<CIDRv4 as Hash>⟧.hash_input b }
+    ensures v6_ranges { (a b : LongRange) → IsTrue (⟦<CIDRv6 as PartialEq>⟧.eq a b) →
+        ⟦<CIDRv6 as Hash>⟧.hash_input a ≡ ⟦<CIDRv6 as Hash>⟧.hash_input b }
+    ensures ranges { (a b : Net) → IsTrue (⟦<IPNet as PartialEq>⟧.eq a b) →
+        ⟦<IPNet as Hash>⟧.hash_input a ≡ ⟦<IPNet as Hash>⟧.hash_input b }
 {}

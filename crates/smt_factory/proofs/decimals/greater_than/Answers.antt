@@ -9,4 +9,4 @@ pub returns-clause-folded : goal.returns-clause-folded
 returns-clause-folded c = search rules
 
 pub returns-clause-refines : goal.returns-clause-refines
-returns-clause-refines c = IfOk-weaker c.bvslt.result _ _ (λ r h. stands_as (plain_term r) _ _ h (functions_stand.greater_than (plain_term c.args.t1) (plain_term c.args.t2))) (returns-clause-folded c)
+returns-clause-refines c = IfOk-weaker c.less_than.result _ _ (λ r h. stands_as (plain_term r) _ _ h (functions_stand.greater_than (plain_term c.args.t1) (plain_term c.args.t2))) (returns-clause-folded c)

@@ -1,7 +1,7 @@
 use Rattle.std.proofs.lemmas.Result.{IfOk-weaker}
 use Rattle.smt_factory_core.proofs.FoldingExtensions.{stands_for_extension}
 use Rattle.smt_factory_core.proofs.extensions.extension.Goals as goal
-use Rattle.smt_types.specs.ExtensionView.{plain_extension_op}
+use Rattle.smt_term.specs.ExtensionView.{plain_extension_op}
 use Rattle.smt_term.specs.View.{plain_term}
 
 pub returns-clause-refines : goal.returns-clause-refines

@@ -1,5 +1,5 @@
 use Rattle.smt_term.specs.View.{plain_items}
-use Rattle.smt_job_declarations.proofs.Reading.{passes_on}
+use Rattle.smt_job_terms.proofs.Reading.{passes_on}
 use Rattle.smt_jobs.proofs.ExpressedJobs.{condition_fault, one_condition_more}
 use Rattle.smt_jobs.proofs.expressed.conditions_from.Goals as goal
 

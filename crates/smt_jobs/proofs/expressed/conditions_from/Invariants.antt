@@ -1,6 +1,6 @@
 use Rattle.std.proofs.Common.{drop}
 use Rattle.law_jobs.specs.Declarations.{Declared}
-use Rattle.smt_job_declarations.specs.DeclarationView.{HasDeclared}
+use Rattle.smt_job_terms.specs.DeclarationView.{HasDeclared}
 use Rattle.smt_jobs.proofs.ExpressedJobs.{ReadingConditions}
 use Rattle.smt_jobs.proofs.expressed.conditions_from.Given as goal
 

@@ -1,6 +1,6 @@
 use Rattle.std.proofs.Common.{codes}
-use Rattle.smt_job_declarations.specs.ReadAs.{plain_list}
-use Rattle.smt_job_declarations.proofs.Reading.{passes_on}
+use Rattle.smt_sexpr.specs.View.{plain_list}
+use Rattle.smt_job_terms.proofs.Reading.{passes_on}
 use Rattle.law_jobs.specs.Declarations.{functions_of, variables_of}
 use Rattle.law_jobs.specs.Enums.{enums_in}
 use Rattle.smt_jobs.proofs.ExpressedJobs.{section_fault, section_missing, section_stated}

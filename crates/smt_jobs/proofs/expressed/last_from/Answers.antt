@@ -1,6 +1,5 @@
-use Rattle.smt_sexpr.specs.View.{plain}
-use Rattle.smt_job_declarations.specs.ReadAs.{plain_list}
-use Rattle.smt_job_declarations.proofs.Reading.{passes_on}
+use Rattle.smt_sexpr.specs.View.{plain, plain_list}
+use Rattle.smt_job_terms.proofs.Reading.{passes_on}
 use Rattle.smt_jobs.specs.StepView.{plain_steps}
 use Rattle.smt_jobs.proofs.ExpressedJobs.{last_fault, last_stated, more_fault}
 use Rattle.smt_jobs.proofs.expressed.last_from.Goals as goal

@@ -1,7 +1,6 @@
-use Rattle.smt_sexpr.specs.View.{plain}
-use Rattle.smt_job_declarations.specs.DeclarationView.{declared_in}
-use Rattle.smt_job_declarations.specs.ReadAs.{plain_list}
-use Rattle.smt_job_declarations.proofs.Reading.{passes_on}
+use Rattle.smt_sexpr.specs.View.{plain, plain_list}
+use Rattle.smt_job_terms.specs.DeclarationView.{stated_in}
+use Rattle.smt_job_terms.proofs.Reading.{passes_on}
 use Rattle.smt_jobs.specs.StepView.{plain_steps}
 use Rattle.smt_jobs.proofs.ExpressedJobs.{declared_fault, job_stated, steps_fault}
 use Rattle.smt_jobs.proofs.expressed.read_job_expr.Goals as goal
@@ -13,11 +12,11 @@ returns-in_err-declared c =
 
 pub returns-in_err-steps : goal.returns-in_err-steps
 returns-in_err-steps c =
-    let ds = declared_in c.in_ok-declared.declared in
+    let ds = stated_in c.in_ok-declared.declared in
     passes_on _ c.from_residual-in_err-steps.result c.in_err-steps.field-0.0 _ _ c.from_residual-in_err-steps.ensures.1 (c.in_err-steps.ensures ds c.in_ok-declared.ensures.declares)
     (steps_fault (plain c.args.e.now) (plain_list c.in_ok-sections.sections.now) c.in_ok-sections.ensures ds _ c.in_ok-declared.ensures.stated)
 
 pub returns : goal.returns
 returns c =
-    let ds = declared_in c.in_ok-declared.declared in
+    let ds = stated_in c.in_ok-declared.declared in
     job_stated (plain c.args.e.now) (plain_list c.in_ok-sections.sections.now) c.in_ok-sections.ensures ds _ c.in_ok-declared.ensures.stated (plain_steps c.in_ok-steps.steps) (c.in_ok-steps.ensures ds c.in_ok-declared.ensures.declares)

@@ -1,9 +1,8 @@
 use Rattle.std.proofs.Common.{sym, ◌∙◌}
 use Rattle.std.specs.Rc.{rc_str_bytes}
-use Rattle.smt_sexpr.specs.View.{plain}
+use Rattle.smt_sexpr.specs.View.{plain, plain_list}
 use Rattle.smt_term.specs.View.{plain_items}
-use Rattle.smt_job_declarations.specs.ReadAs.{plain_list}
-use Rattle.smt_job_declarations.proofs.Reading.{passes_on, read_of}
+use Rattle.smt_job_terms.proofs.Reading.{passes_on, read_of}
 use Rattle.smt_jobs.specs.StepView.{plain_steps}
 use Rattle.smt_jobs.proofs.ExpressedJobs.{steps_stated, terms_fault, terms_stated}
 use Rattle.smt_jobs.proofs.expressed.section_from.Goals as goal

@@ -1,8 +1,7 @@
 use Rattle.std.proofs.Common.{bytes_eq, codes, sym, ap, ◌∙◌}
 use Rattle.std.specs.Rc.{rc_str_bytes}
-use Rattle.smt_sexpr.specs.View.{plain}
-use Rattle.smt_job_declarations.specs.ReadAs.{plain_list}
-use Rattle.smt_job_declarations.proofs.Reading.{passes_on}
+use Rattle.smt_sexpr.specs.View.{plain, plain_list}
+use Rattle.smt_job_terms.proofs.Reading.{passes_on}
 use Rattle.smt_jobs.specs.StepView.{plain_step}
 use Rattle.smt_jobs.proofs.ExpressedJobs.{assert_fault}
 use Rattle.smt_jobs.proofs.expressed.step_from.Goals as goal

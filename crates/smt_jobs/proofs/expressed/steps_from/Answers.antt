@@ -1,6 +1,6 @@
 use Rattle.std.proofs.Common.{◌≤◌, arith}
 use Rattle.smt_jobs.specs.StepView.{plain_step, plain_steps}
-use Rattle.smt_job_declarations.proofs.Reading.{passes_on}
+use Rattle.smt_job_terms.proofs.Reading.{passes_on}
 use Rattle.smt_jobs.proofs.ExpressedJobs.{all_steps, level_fault, one_step_more, step_fault}
 use Rattle.smt_jobs.proofs.expressed.steps_from.Goals as goal
 

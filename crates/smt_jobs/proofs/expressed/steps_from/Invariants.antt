@@ -1,6 +1,6 @@
 use Rattle.std.proofs.Common.{◌≤◌, drop}
 use Rattle.law_jobs.specs.Declarations.{Declared}
-use Rattle.smt_job_declarations.specs.DeclarationView.{HasDeclared}
+use Rattle.smt_job_terms.specs.DeclarationView.{HasDeclared}
 use Rattle.smt_jobs.specs.StepView.{plain_steps}
 use Rattle.smt_jobs.proofs.ExpressedJobs.{ReadingSteps}
 use Rattle.smt_jobs.proofs.expressed.steps_from.Given as goal

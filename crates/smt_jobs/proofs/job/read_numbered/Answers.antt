@@ -1,7 +1,7 @@
-use Rattle.smt_job_declarations.specs.DeclarationView.{declared_in}
+use Rattle.smt_job_terms.specs.DeclarationView.{stated_in}
 use Rattle.smt_jobs.specs.StepView.{plain_section}
 use Rattle.smt_jobs.proofs.Walking.{built_from}
 use Rattle.smt_jobs.proofs.job.read_numbered.Goals as goal
 
 pub returns-clause-job : goal.returns-clause-job
-returns-clause-job c = built_from c.args.bytes.now (declared_in c.in_ok-declared.declared) (plain_section c.in_ok-declared.section) _ _ c.in_ok-declared.ensures.job c.new-steps.ensures.steps
+returns-clause-job c = built_from c.args.bytes.now (stated_in c.in_ok-declared.declared) (plain_section c.in_ok-declared.section) _ _ c.in_ok-declared.ensures.job c.new-steps.ensures.steps

@@ -1,5 +1,5 @@
 use Rattle.law_jobs.specs.Jobs.{declared_first}
-use Rattle.smt_job_declarations.specs.DeclarationView.{declared_in}
+use Rattle.smt_job_terms.specs.DeclarationView.{stated_in}
 use Rattle.smt_jobs.specs.Walk.{StandsFirst}
 use Rattle.smt_jobs.proofs.Walking.{all_declared, enums_refused, functions_refused, gives_passes, read_none, read_one_more, variables_refused}
 use Rattle.smt_jobs.proofs.walk.read_declarations.Goals as goal
@@ -12,19 +12,19 @@ returns-clause-read c =
 
 pub returns-in_err-enums-clause-stated : goal.returns-in_err-enums-clause-stated
 returns-in_err-enums-clause-stated c es end begins =
-    gives_passes (StandsFirst declared_in end) c.from_residual.result c.in_err-enums.field-0.0 (declared_first es) _ c.from_residual.ensures.1 (c.in_err-enums.ensures.stated es end begins) (enums_refused es)
+    gives_passes (StandsFirst stated_in end) c.from_residual.result c.in_err-enums.field-0.0 (declared_first es) _ c.from_residual.ensures.1 (c.in_err-enums.ensures.stated es end begins) (enums_refused es)
 
 pub returns-in_err-variables-clause-stated : goal.returns-in_err-variables-clause-stated
 returns-in_err-variables-clause-stated c es end begins =
     let enums = c.in_ok-enums.ensures.stated es end begins in
-    gives_passes (StandsFirst declared_in end) c.from_residual-in_err-variables.result c.in_err-variables.field-0.0 (declared_first es) _ c.from_residual-in_err-variables.ensures.1 (c.in_err-variables.ensures.stated enums.0.1 end enums.2.1)
+    gives_passes (StandsFirst stated_in end) c.from_residual-in_err-variables.result c.in_err-variables.field-0.0 (declared_first es) _ c.from_residual-in_err-variables.ensures.1 (c.in_err-variables.ensures.stated enums.0.1 end enums.2.1)
     (variables_refused es enums.0 enums.1)
 
 pub returns-in_err-functions-clause-stated : goal.returns-in_err-functions-clause-stated
 returns-in_err-functions-clause-stated c es end begins =
     let enums = c.in_ok-enums.ensures.stated es end begins in
     let variables = c.in_ok-variables.ensures.stated enums.0.1 end enums.2.1 in
-    gives_passes (StandsFirst declared_in end) c.from_residual-in_err-functions.result c.in_err-functions.field-0.0 (declared_first es) _ c.from_residual-in_err-functions.ensures.1 (c.in_err-functions.ensures.stated variables.0.1 end variables.2.1)
+    gives_passes (StandsFirst stated_in end) c.from_residual-in_err-functions.result c.in_err-functions.field-0.0 (declared_first es) _ c.from_residual-in_err-functions.ensures.1 (c.in_err-functions.ensures.stated variables.0.1 end variables.2.1)
     (functions_refused es enums.0 enums.1 variables.0 variables.1)
 
 pub returns-clause-stated : goal.returns-clause-stated

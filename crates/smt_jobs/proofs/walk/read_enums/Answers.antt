@@ -1,5 +1,5 @@
 use Rattle.std.proofs.Common.{codes, refl}
-use Rattle.smt_types.specs.Enums.{enums_of}
+use Rattle.smt_term.specs.Enums.{enums_of}
 use Rattle.law_jobs.specs.Enums.{enums_in}
 use Rattle.smt_sexpr.specs.View.{plain}
 use Rattle.law_jobs.specs.Jobs.{section_first, section_of}

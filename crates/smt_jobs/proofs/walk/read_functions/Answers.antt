@@ -1,7 +1,7 @@
 use Rattle.std.proofs.Common.{codes, refl}
 use Rattle.law_jobs.specs.Declarations.{functions_of}
-use Rattle.smt_job_declarations.specs.DeclarationView.{functions}
-use Rattle.smt_job_declarations.specs.declared.declaration.Functions.{Functions}
+use Rattle.smt_job_terms.specs.DeclarationView.{functions}
+use Rattle.smt_job_terms.specs.declared.declaration.Functions.{Functions}
 use Rattle.smt_sexpr.specs.View.{plain}
 use Rattle.law_jobs.specs.Jobs.{section_first, section_of}
 use Rattle.smt_jobs.specs.Walk.{StandsFirst, first_and_others}

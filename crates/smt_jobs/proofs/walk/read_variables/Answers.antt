@@ -1,7 +1,7 @@
 use Rattle.std.proofs.Common.{codes, refl}
 use Rattle.law_jobs.specs.Declarations.{variables_of}
-use Rattle.smt_job_declarations.specs.DeclarationView.{declarations}
-use Rattle.smt_job_declarations.specs.declared.declaration.Variables.{Variables}
+use Rattle.smt_job_terms.specs.DeclarationView.{declarations}
+use Rattle.smt_job_terms.specs.declared.declaration.Variables.{Variables}
 use Rattle.smt_sexpr.specs.View.{plain}
 use Rattle.law_jobs.specs.Jobs.{section_first, section_of}
 use Rattle.smt_jobs.specs.Walk.{StandsFirst, first_and_others}

@@ -4,7 +4,7 @@ use Rattle.law_folding.specs.Built.{built}
 use Rattle.law_jobs.specs.Terms.{condition_of}
 use Rattle.smt_sexpr.specs.View.{plain}
 use Rattle.smt_jobs.specs.Direct.{IsTakenCondition, ReadsOf}
-use Rattle.smt_job_declarations.proofs.Reading.{mapped_of}
+use Rattle.smt_job_terms.proofs.Reading.{mapped_of}
 use Rattle.smt_jobs.proofs.Walking.{cons_from, first_read, found_first}
 use Rattle.smt_jobs.proofs.walk.take_term.Goals as goal
 

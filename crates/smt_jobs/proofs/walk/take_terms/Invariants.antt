@@ -2,7 +2,7 @@ use Rattle.std.proofs.Common.{◌≡◌, ◌≤◌, List, length}
 use Rattle.law_texts.specs.Lexicon.{Token}
 use Rattle.law_texts.specs.Reading.{Expressions}
 use Rattle.law_jobs.specs.Declarations.{Declared}
-use Rattle.smt_job_declarations.specs.DeclarationView.{HasDeclared}
+use Rattle.smt_job_terms.specs.DeclarationView.{HasDeclared}
 use Rattle.smt_jobs.specs.Walk.{BeginsInside, ReadsSome}
 use Rattle.smt_jobs.proofs.Walking.{Taking}
 use Rattle.smt_jobs.proofs.walk.take_terms.Given as goal

@@ -1,9 +1,9 @@
 use Rattle.std.proofs.Common.{◌≡◌, ◌≤◌, Err, length, rules}
 use Rattle.std.specs.Prelude.{IsErrOf}
 use Rattle.law_jobs.specs.Jobs.{greatest_length}
-use Rattle.smt_job_declarations.specs.declared.declaration.Declared.{Declared}
-use Rattle.smt_job_declarations.specs.declared.error.JobError.{JobError}
-use Rattle.smt_job_declarations.specs.declared.error.JobError.TheVariants.{TooLarge}
+use Rattle.smt_job_terms.specs.declared.declaration.Declared.{Declared}
+use Rattle.smt_job_terms.specs.declared.error.JobError.{JobError}
+use Rattle.smt_job_terms.specs.declared.error.JobError.TheVariants.{TooLarge}
 use Rattle.smt_jobs.specs.declared.steps.Section.{Section}
 use Rattle.smt_jobs.proofs.Walking.{first_refused, job_taken, too_large}
 use Rattle.smt_jobs.proofs.walk.walk_job.Goals as goal

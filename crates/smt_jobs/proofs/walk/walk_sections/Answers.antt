@@ -1,7 +1,7 @@
 use Rattle.std.proofs.Common.{[], codes, refl}
 use Rattle.law_jobs.specs.Jobs.{declared_first, job_of, section_of}
 use Rattle.law_jobs.specs.Steps.{nothing_more}
-use Rattle.smt_job_declarations.specs.DeclarationView.{declared_in}
+use Rattle.smt_job_terms.specs.DeclarationView.{stated_in}
 use Rattle.smt_jobs.specs.Walk.{first_by, section_in}
 use Rattle.smt_jobs.proofs.Walking.{IsSectioned, ended, gives_passes, job_read, no_job, no_steps, not_declared, not_ended, whole_begins, with_steps, without_steps}
 use Rattle.smt_jobs.proofs.walk.walk_sections.Goals as goal
@@ -22,7 +22,7 @@ pub returns-in_err-rest-clause-stated : goal.returns-in_err-rest-clause-stated
 returns-in_err-rest-clause-stated g c e read =
     let job = c.in_ok-inside.ensures.stated e [] (whole_begins c.args.src.now e read) in
     let first = c.in_ok-declared.ensures.stated job.0 [] job.2 in
-    let ds = declared_in c.in_ok-declared.declared in
+    let ds = stated_in c.in_ok-declared.declared in
     let s : IsSectioned e ds first.0.1 = record { inside = job.0; is_job = job.1; p = first.0; declares = first.1; declared = first.2.0; others_are = refl } in
     gives_passes _ c.from_residual-in_err-rest.result c.in_err-rest.field-0.0 (job_of e) (first_by (section_in ds) first.0.1) c.from_residual-in_err-rest.ensures.1
     (c.in_err-rest.ensures.stated ds c.in_ok-declared.ensures.declares first.0.1 [] first.2.1)
@@ -32,7 +32,7 @@ pub returns-in_err-finish-clause-stated : goal.returns-in_err-finish-clause-stat
 returns-in_err-finish-clause-stated g c e read =
     let job = c.in_ok-inside.ensures.stated e [] (whole_begins c.args.src.now e read) in
     let first = c.in_ok-declared.ensures.stated job.0 [] job.2 in
-    let ds = declared_in c.in_ok-declared.declared in
+    let ds = stated_in c.in_ok-declared.declared in
     let s : IsSectioned e ds first.0.1 = record { inside = job.0; is_job = job.1; p = first.0; declares = first.1; declared = first.2.0; others_are = refl } in
     let taken = c.in_ok-rest.ensures.stated ds c.in_ok-declared.ensures.declares first.0.1 [] first.2.1 in
     gives_passes _ c.from_residual-in_err-finish.result c.in_err-finish.field-0.0 (job_of e) (nothing_more taken.0.1) c.from_residual-in_err-finish.ensures.1 (c.in_err-finish.ensures.stated taken.0.1 taken.2.2)
@@ -42,7 +42,7 @@ pub returns-clause-stated : goal.returns-clause-stated
 returns-clause-stated g c e read =
     let job = c.in_ok-inside.ensures.stated e [] (whole_begins c.args.src.now e read) in
     let first = c.in_ok-declared.ensures.stated job.0 [] job.2 in
-    let ds = declared_in c.in_ok-declared.declared in
+    let ds = stated_in c.in_ok-declared.declared in
     let s : IsSectioned e ds first.0.1 = record { inside = job.0; is_job = job.1; p = first.0; declares = first.1; declared = first.2.0; others_are = refl } in
     let taken = c.in_ok-rest.ensures.stated ds c.in_ok-declared.ensures.declares first.0.1 [] first.2.1 in (
       (taken.0.0.0, record { enums = ds.enums; variables = ds.variables; functions = ds.functions; steps = taken.0.0.1 }),

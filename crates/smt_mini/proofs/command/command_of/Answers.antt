@@ -2,8 +2,8 @@ use Rattle.std.proofs.Common.{sym, ap, ◌∙◌}
 use Rattle.std.specs.Option.{option_and_then}
 use Rattle.law_verdicts.specs.Fragment.{command_with}
 use Rattle.smt_mini.proofs.Shapes.{command_by, found}
-use Rattle.smt_mini.specs.Parts.{first_apart, inside_of, name_in, plain_list}
-use Rattle.smt_sexpr.specs.View.{plain}
+use Rattle.law_texts.specs.Parts.{first_apart, inside_of, name_in}
+use Rattle.smt_sexpr.specs.View.{plain, plain_list}
 use Rattle.smt_mini.proofs.command.command_of.Goals as goal
 
 pub returns : goal.returns

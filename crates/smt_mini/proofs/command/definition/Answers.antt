@@ -1,7 +1,8 @@
 use Rattle.std.proofs.Common.{option_map, sym, ap, ◌∙◌}
 use Rattle.law_scripts.specs.Script.{DefineFun}
 use Rattle.smt_mini.proofs.Shapes.{definition_by, found}
-use Rattle.smt_mini.specs.Parts.{both, plain_list}
+use Rattle.law_texts.specs.Parts.{both}
+use Rattle.smt_sexpr.specs.View.{plain_list}
 use Rattle.smt_mini.specs.Commands.{signature_of}
 use Rattle.smt_mini.proofs.command.definition.Goals as goal
 

@@ -2,7 +2,8 @@ use Rattle.std.proofs.Common.{sym, ◌∙◌}
 use Rattle.std.specs.Option.{option_and_then}
 use Rattle.law_verdicts.specs.Fragment.{option_named}
 use Rattle.smt_mini.proofs.Shapes.{option_by, found}
-use Rattle.smt_mini.specs.Parts.{both, name_in, plain_list}
+use Rattle.law_texts.specs.Parts.{both, name_in}
+use Rattle.smt_sexpr.specs.View.{plain_list}
 use Rattle.smt_mini.proofs.command.option.Goals as goal
 
 pub returns : goal.returns

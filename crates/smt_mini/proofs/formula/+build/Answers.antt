@@ -12,7 +12,7 @@ use Rattle.smt_mini.specs.Tables.{table_of}
 use Rattle.smt_mini.specs.Gates.{value_at}
 use Rattle.law_verdicts.specs.Truths.{connected}
 use Rattle.smt_mini.proofs.Building.{Building, application_built, application_unknown, formula_parts, next_fits, next_is_formula, not_built, one_built}
-use Rattle.smt_mini.proofs.Shapes.{bracketed, headed, nothing_listed}
+use Rattle.smt_sexpr.proofs.Shapes.{bracketed, headed, nothing_listed}
 use Rattle.smt_mini.proofs.formula.+build.Goals as goal
 
 pub build-returns-in_default : goal.build-returns-in_default

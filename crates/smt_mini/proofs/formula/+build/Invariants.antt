@@ -2,7 +2,7 @@ use Rattle.std.proofs.Common.{◌≡◌, drop, take, true}
 use Rattle.law_scripts.specs.Script.{State}
 use Rattle.law_verdicts.specs.Fragment.{are_formulas, is_truth_name}
 use Rattle.smt_mini.proofs.Building.{Building}
-use Rattle.smt_mini.specs.Parts.{plain_list}
+use Rattle.smt_sexpr.specs.View.{plain_list}
 use Rattle.smt_mini.specs.Tables.{Fits, table_of}
 use Rattle.smt_mini.proofs.formula.+build.Given as goal
 

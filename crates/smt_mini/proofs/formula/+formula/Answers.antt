@@ -3,7 +3,7 @@ use Rattle.law_texts.specs.Reading.{Node}
 use Rattle.law_verdicts.specs.Fragment as fragment
 use Rattle.law_verdicts.specs.Fragment.{is_truth_name}
 use Rattle.smt_mini.proofs.Formulas.{else_connective, one_formula_more, then_connective}
-use Rattle.smt_mini.proofs.Shapes.{bracketed, headed, nothing_listed, others}
+use Rattle.smt_sexpr.proofs.Shapes.{bracketed, headed, nothing_listed, others}
 use Rattle.smt_mini.proofs.formula.+formula.Goals as goal
 
 pub are_formulas-loop-operand-preserved : goal.are_formulas-loop-operand-preserved

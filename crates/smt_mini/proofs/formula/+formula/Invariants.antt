@@ -1,7 +1,7 @@
 use Rattle.std.proofs.Common.{◌≡◌, drop}
 use Rattle.law_scripts.specs.Script.{State}
 use Rattle.law_verdicts.specs.Fragment.{are_formulas, is_truth_name}
-use Rattle.smt_mini.specs.Parts.{plain_list}
+use Rattle.smt_sexpr.specs.View.{plain_list}
 use Rattle.smt_mini.specs.Tables.{Fits, table_of}
 use Rattle.smt_mini.proofs.formula.+formula.Given as goal
 

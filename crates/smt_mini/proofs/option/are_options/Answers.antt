@@ -4,8 +4,7 @@ use Rattle.law_scripts.specs.Script.{name}
 use Rattle.law_scripts.specs.Sorts.{same_sort}
 use Rattle.smt_mini.proofs.Shapes.{both_by}
 use Rattle.smt_mini.specs.OptionLine.{body}
-use Rattle.smt_sexpr.specs.View.{plain}
-use Rattle.smt_mini.specs.Parts.{plain_list}
+use Rattle.smt_sexpr.specs.View.{plain, plain_list}
 use Rattle.smt_mini.proofs.option.are_options.Goals as goal
 
 tested : Option (Expression × Expression) → Bool

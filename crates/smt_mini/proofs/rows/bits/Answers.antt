@@ -1,5 +1,5 @@
 use Rattle.std.proofs.Common.{◌≡◌, ap, sym, ◌∙◌, refl, arith}
-use Rattle.law_verdicts.specs.Rows.{has_bit, just}
+use Rattle.law_verdicts.specs.TruthRows.{has_bit, just}
 use Rattle.smt_mini.proofs.RowBits.{row_of_bits}
 use Rattle.smt_mini.proofs.rows.bits.Goals as goal
 

@@ -1,5 +1,5 @@
 use Rattle.std.proofs.Common.{ap, sym, ◌∙◌}
-use Rattle.law_verdicts.specs.Rows as rows
+use Rattle.law_verdicts.specs.TruthRows as rows
 use Rattle.smt_mini.proofs.RowBits.{just_false, just_true}
 use Rattle.smt_mini.proofs.rows.just.Goals as goal
 

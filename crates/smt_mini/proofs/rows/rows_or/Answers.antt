@@ -1,4 +1,4 @@
-use Rattle.law_verdicts.proofs.Rows.{rows_stand_alone}
+use Rattle.law_verdicts.proofs.TruthRows.{rows_stand_alone}
 use Rattle.smt_mini.specs.Search.{plain_rows}
 use Rattle.smt_mini.proofs.rows.rows_or.Goals as goal
 

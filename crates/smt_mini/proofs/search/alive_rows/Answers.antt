@@ -1,6 +1,6 @@
 use Rattle.std.proofs.Common.{ap, ap₂, ◌∙◌, ◌&&◌, map, Bool, List}
 use Rattle.std.specs.List.{list_all}
-use Rattle.law_verdicts.specs.Rows.{May}
+use Rattle.law_verdicts.specs.TruthRows.{May}
 use Rattle.smt_mini.specs.Search.{in_row, may_place}
 use Rattle.smt_mini.proofs.search.alive_rows.Goals as goal
 

@@ -1,5 +1,5 @@
 use Rattle.std.proofs.Common.{◌≡◌, ◌≤◌, ◌++◌}
-use Rattle.law_verdicts.specs.Rows.{row_truths}
+use Rattle.law_verdicts.specs.TruthRows.{row_truths}
 use Rattle.smt_mini.proofs.search.push_row.Given as goal
 
 abbrev pub invariant-loop-left : goal.invariant-loop-left

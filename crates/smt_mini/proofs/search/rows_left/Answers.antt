@@ -1,5 +1,5 @@
 use Rattle.std.proofs.Common.{rules, ap, ◌∙◌, map}
-use Rattle.law_verdicts.specs.Rows.{May}
+use Rattle.law_verdicts.specs.TruthRows.{May}
 use Rattle.smt_mini.specs.Search.{in_row, may_place}
 use Rattle.smt_mini.proofs.RowBits.{one_gate_more}
 use Rattle.smt_mini.proofs.search.rows_left.Goals as goal

@@ -1,6 +1,6 @@
 use Rattle.std.proofs.Common.{◌≡◌, ◌<◌, ◌&&◌, ℕ, drop, map}
 use Rattle.std.specs.List.{list_all}
-use Rattle.law_verdicts.specs.Rows.{has_bit}
+use Rattle.law_verdicts.specs.TruthRows.{has_bit}
 use Rattle.smt_mini.specs.Search.{in_row, may_place}
 use Rattle.smt_mini.proofs.search.rows_left.Given as goal
 

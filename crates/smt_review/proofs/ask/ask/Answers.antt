@@ -1,4 +1,4 @@
-use Rattle.smt_types.specs.Enums.{enums_of}
+use Rattle.smt_term.specs.Enums.{enums_of}
 use Rattle.smt_term.specs.View.{plain_term}
 use Rattle.smt_pool.specs.Pooled.{pooled_link, pooled_state}
 use Rattle.smt_review.proofs.Asking.{answered_as, exits, same_then, unanswered_as}

@@ -1,4 +1,4 @@
-use Rattle.smt_types.specs.Enums.{enums_of}
+use Rattle.smt_term.specs.Enums.{enums_of}
 use Rattle.smt_term.proofs.FormedTerms.{terms_are_formed}
 use Rattle.smt_term.specs.View.{plain_term}
 use Rattle.smt_encode.specs.Encoded.{enums_in, is_spent, sink_of}

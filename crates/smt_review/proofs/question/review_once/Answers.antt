@@ -1,4 +1,4 @@
-use Rattle.smt_types.specs.Enums.{enums_of}
+use Rattle.smt_term.specs.Enums.{enums_of}
 use Rattle.smt_term.specs.View.{plain_term}
 use Rattle.smt_solve.specs.Session.{session_link, state_by}
 use Rattle.smt_solve.specs.Starter.{command_of}

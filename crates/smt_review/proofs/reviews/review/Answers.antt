@@ -1,6 +1,6 @@
 use Rattle.std.proofs.Common.{Ok, refl}
-use Rattle.smt_types.proofs.AscendingTexts.{members_ascend}
-use Rattle.smt_types.specs.Enums.{enums_of}
+use Rattle.smt_term.proofs.AscendingTexts.{members_ascend}
+use Rattle.smt_term.specs.Enums.{enums_of}
 use Rattle.smt_term.proofs.FormedTerms.{terms_are_formed}
 use Rattle.smt_term.specs.View.{plain_term}
 use Rattle.smt_pool.specs.Pool.{pool_starter, pool_state}

@@ -1,6 +1,6 @@
 use Rattle.std.proofs.Common.{◌≡◌, ◌∙◌, Err, ap, inl, refl, subst, sym, arith}
 use Rattle.law_theorem.specs.Fits.{new_stages}
-use Rattle.smt_types.specs.Enums.{enums_of}
+use Rattle.smt_term.specs.Enums.{enums_of}
 use Rattle.smt_script.specs.Memory.{list_bytes}
 use Rattle.smt_script.specs.Sink.{Rose}
 use Rattle.smt_solve.specs.Link.{LinkState}

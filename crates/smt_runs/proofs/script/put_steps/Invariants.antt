@@ -1,5 +1,5 @@
 use Rattle.std.proofs.Common.{length}
-use Rattle.smt_types.specs.Enums.{enums_of}
+use Rattle.smt_term.specs.Enums.{enums_of}
 use Rattle.smt_runs.proofs.Between.{IsUnderway}
 use Rattle.smt_runs.proofs.script.put_steps.Given as goal
 

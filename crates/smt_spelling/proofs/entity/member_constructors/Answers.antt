@@ -2,7 +2,7 @@ use Rattle.std.proofs.Common.{◌+◌, ◌<◌, ◌∷◌, ◌++◌, [], drop, l
 use Rattle.std.specs.Rc.{rc_str_bytes}
 use Rattle.std.proofs.lemmas.List.{map-append}
 use Rattle.law_texts.specs.SharedTexts.{texts}
-use Rattle.smt_types.specs.TextSets.{texts_of}
+use Rattle.smt_term.specs.TextSets.{texts_of}
 use Rattle.law_lines.specs.Line.{spelled_constructor}
 use Rattle.law_lines.specs.LineForms.{member_constructors}
 use Rattle.smt_spelling.proofs.Members.{constructors_from, none_from}

@@ -1,6 +1,6 @@
 use Rattle.std.proofs.Common.{◌≡◌, ◌++◌, drop, map}
 use Rattle.law_texts.specs.SharedTexts.{texts}
-use Rattle.smt_types.specs.TextSets.{texts_of}
+use Rattle.smt_term.specs.TextSets.{texts_of}
 use Rattle.law_lines.specs.Line.{spelled_constructor}
 use Rattle.law_lines.specs.LineForms.{member_constructors}
 use Rattle.smt_spelling.proofs.entity.member_constructors.Given as goal

@@ -1,5 +1,5 @@
 use Rattle.std.proofs.Common.{sym, subst}
-use Rattle.smt_types.specs.Enums.{enums_of}
+use Rattle.smt_term.specs.Enums.{enums_of}
 use Rattle.smt_nodes.specs.View.{plain_label}
 use Rattle.smt_nodes.specs.declared.node.Label.{Label}
 use Rattle.smt_spelling.specs.TextFaults.{text_fault, Finds}

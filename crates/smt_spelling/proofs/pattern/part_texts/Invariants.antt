@@ -4,7 +4,7 @@ use Rattle.std.specs.Rc.{rc_str_bytes}
 use Rattle.law_scripts.specs.WrittenStrings.{part_expr}
 use Rattle.law_lines.specs.Spelling.{spelled}
 use Rattle.law_terms.specs.Faults.{is_pattern_part}
-use Rattle.smt_types.specs.PatternView.{plain_part}
+use Rattle.smt_term.specs.PatternView.{plain_part}
 use Rattle.smt_spelling.proofs.pattern.part_texts.Given as goal
 
 -- what is written so far and what is left are all, and no character so far is refused

@@ -1,6 +1,6 @@
 use Rattle.std.proofs.Common.{◌≡◌, map}
 use Rattle.law_terms.specs.ValueOrder.{text_cmp}
-use Rattle.smt_types.specs.SortedPairs.{sorted_pairs}
+use Rattle.smt_term.specs.SortedPairs.{sorted_pairs}
 use Rattle.smt_symbolizer.specs.Named.{named}
 use Rattle.smt_symbolizer.proofs.by_type.in_order.Given as goal
 

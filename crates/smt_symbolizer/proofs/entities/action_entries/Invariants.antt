@@ -1,6 +1,6 @@
 use Rattle.std.proofs.Common.{◌≡◌, ◌++◌, drop, map}
 use Rattle.smt_values.specs.View.{plain_action}
-use Rattle.smt_types.specs.Entities.{bytes_of_type}
+use Rattle.smt_term.specs.Entities.{bytes_of_type}
 use Rattle.law_cedar.specs.Symbolized.{action_entry}
 use Rattle.smt_term.specs.Tables.{plain_entry}
 use Rattle.smt_symbolizer.proofs.entities.action_entries.Given as goal

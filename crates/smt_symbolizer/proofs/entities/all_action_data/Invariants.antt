@@ -1,7 +1,7 @@
 use Rattle.std.proofs.Common.{◌≡◌, ◌++◌, drop, map}
 use Rattle.smt_values.specs.View.{plain_action}
-use Rattle.smt_types.specs.Entities.{bytes_of_type}
-use Rattle.smt_types.specs.Enums.{enums_of}
+use Rattle.smt_term.specs.Entities.{bytes_of_type}
+use Rattle.smt_term.specs.Enums.{enums_of}
 use Rattle.law_cedar.specs.Symbolized.{actions_of}
 use Rattle.smt_symbolizer.specs.Named.{said}
 use Rattle.smt_symbolizer.specs.Stored.{data_of_actions}

@@ -1,6 +1,6 @@
 use Rattle.std.proofs.Common.{map}
 use Rattle.smt_values.specs.View.{entry_named, plain_stored}
-use Rattle.smt_types.specs.Enums.{enums_of}
+use Rattle.smt_term.specs.Enums.{enums_of}
 use Rattle.law_cedar.specs.Symbolized.{typed_data}
 use Rattle.smt_symbolizer.proofs.Walked.{mapped_done, mapped_more, mapped_refused}
 use Rattle.smt_symbolizer.specs.Named.{said}

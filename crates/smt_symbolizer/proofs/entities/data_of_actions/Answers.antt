@@ -1,5 +1,5 @@
 use Rattle.std.proofs.Common.{Some, None, ap, ◌∙◌}
-use Rattle.smt_types.specs.SortedPairs.{sorted_pairs}
+use Rattle.smt_term.specs.SortedPairs.{sorted_pairs}
 use Rattle.law_terms.specs.ValueOrder.{text_cmp}
 use Rattle.smt_symbolizer.proofs.SortedTypes.{said_in_order}
 use Rattle.smt_symbolizer.specs.ByType.{pairs_held}

@@ -1,7 +1,7 @@
 use Rattle.std.proofs.Common.{ℕ, List, map, sym, ap, ◌∙◌}
 use Rattle.smt_values.specs.Plain.{PlainAction}
 use Rattle.smt_values.specs.View.{entry_named, plain_schema, plain_stored}
-use Rattle.smt_types.specs.Enums.{enums_of}
+use Rattle.smt_term.specs.Enums.{enums_of}
 use Rattle.law_cedar.specs.Plain.{PlainData}
 use Rattle.law_cedar.specs.Symbolized.{action_data, action_types, typed_data}
 use Rattle.smt_symbolizer.proofs.StoredTypes.{all_types}

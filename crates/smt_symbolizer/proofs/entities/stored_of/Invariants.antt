@@ -1,6 +1,6 @@
 use Rattle.std.proofs.Common.{◌≡◌, ◌++◌, drop, map}
 use Rattle.smt_values.specs.View.{plain_stored}
-use Rattle.smt_types.specs.Entities.{bytes_of_type}
+use Rattle.smt_term.specs.Entities.{bytes_of_type}
 use Rattle.law_cedar.specs.Tables.{stored_of}
 use Rattle.smt_symbolizer.proofs.entities.stored_of.Given as goal
 

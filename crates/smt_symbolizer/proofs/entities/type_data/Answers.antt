@@ -1,8 +1,8 @@
 use Rattle.std.proofs.Common.{map, option_map, sym, ap, ◌∙◌}
 use Rattle.smt_values.specs.View.{plain_entry, plain_stored, plain_types}
-use Rattle.smt_cedar.specs.TypeView.{plain_cedar, plain_cedar_attributes}
-use Rattle.smt_types.specs.Entities.{bytes_of_type}
-use Rattle.smt_types.specs.Enums.{enums_of}
+use Rattle.smt_values.specs.TypeView.{plain_cedar, plain_cedar_attributes}
+use Rattle.smt_term.specs.Entities.{bytes_of_type}
+use Rattle.smt_term.specs.Enums.{enums_of}
 use Rattle.law_cedar.specs.Symbolized.{type_data}
 use Rattle.smt_symbolizer.proofs.StoredTypes.{data_said}
 use Rattle.smt_symbolizer.specs.Stored.{data_of}

@@ -1,6 +1,6 @@
 use Rattle.std.proofs.Common.{drop, map}
 use Rattle.smt_values.specs.View.{plain_stored}
-use Rattle.smt_cedar.specs.TypeView.{plain_cedar}
+use Rattle.smt_values.specs.TypeView.{plain_cedar}
 use Rattle.law_cedar.specs.Tables.{tag_entries}
 use Rattle.smt_symbolizer.proofs.Walked.{Joining}
 use Rattle.smt_term.specs.Tables.{plain_entry}

@@ -1,6 +1,6 @@
 use Rattle.std.proofs.Common.{◌≡◌, ◌++◌, drop, map}
 use Rattle.smt_values.specs.View.{plain_stored}
-use Rattle.smt_types.specs.Entities.{bytes_of_type}
+use Rattle.smt_term.specs.Entities.{bytes_of_type}
 use Rattle.law_cedar.specs.Tables.{ancestors_entry}
 use Rattle.smt_term.specs.Tables.{plain_entry}
 use Rattle.smt_symbolizer.proofs.entries.ancestors_entries.Given as goal

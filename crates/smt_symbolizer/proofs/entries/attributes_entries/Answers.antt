@@ -1,6 +1,6 @@
 use Rattle.std.proofs.Common.{map}
 use Rattle.smt_values.specs.View.{plain_stored}
-use Rattle.smt_cedar.specs.TypeView.{plain_cedar_attributes}
+use Rattle.smt_values.specs.TypeView.{plain_cedar_attributes}
 use Rattle.law_cedar.specs.Tables as stated
 use Rattle.smt_symbolizer.proofs.Walked.{mapped_done, mapped_more, mapped_refused}
 use Rattle.smt_term.specs.Tables.{plain_entry}

@@ -1,6 +1,6 @@
 use Rattle.std.proofs.Common.{drop, map}
 use Rattle.smt_values.specs.View.{plain_stored}
-use Rattle.smt_cedar.specs.TypeView.{plain_cedar_attributes}
+use Rattle.smt_values.specs.TypeView.{plain_cedar_attributes}
 use Rattle.law_cedar.specs.Tables.{attributes_entry}
 use Rattle.smt_term.specs.Tables.{plain_entry}
 use Rattle.smt_values.proofs.Walks.{Walking}

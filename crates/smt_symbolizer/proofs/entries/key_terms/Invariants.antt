@@ -1,6 +1,6 @@
 use Rattle.std.proofs.Common.{◌≡◌, ◌++◌, drop, map}
 use Rattle.std.specs.Map.{keys_of}
-use Rattle.smt_cedar.specs.ValueView.{known_field}
+use Rattle.smt_values.specs.ValueView.{known_field}
 use Rattle.law_cedar.specs.Tables.{text_term}
 use Rattle.smt_term.specs.View.{plain_term}
 use Rattle.smt_symbolizer.proofs.entries.key_terms.Given as goal

@@ -1,7 +1,7 @@
 use Rattle.std.proofs.Common.{map, sym, ap, ◌∙◌}
-use Rattle.smt_cedar.specs.TypeView.{plain_cedar}
-use Rattle.smt_cedar.specs.ValueView.{known_field}
-use Rattle.smt_types.specs.Entities.{texts_of_entity}
+use Rattle.smt_values.specs.TypeView.{plain_cedar}
+use Rattle.smt_values.specs.ValueView.{known_field}
+use Rattle.smt_term.specs.Entities.{texts_of_entity}
 use Rattle.law_cedar.specs.Tables as stated
 use Rattle.smt_symbolizer.proofs.Walked.{mapped_done, mapped_more, mapped_refused}
 use Rattle.smt_term.specs.Tables.{plain_entry}

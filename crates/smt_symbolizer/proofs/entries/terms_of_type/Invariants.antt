@@ -1,7 +1,7 @@
 use Rattle.std.proofs.Common.{◌≡◌, ◌++◌, drop, map}
 use Rattle.std.specs.List.{filter}
 use Rattle.std.specs.Prelude.{bytes_eq}
-use Rattle.smt_types.specs.Entities.{bytes_of_type, texts_of_entity}
+use Rattle.smt_term.specs.Entities.{bytes_of_type, texts_of_entity}
 use Rattle.law_cedar.specs.Tables.{entity_term}
 use Rattle.smt_term.specs.View.{plain_term}
 use Rattle.smt_symbolizer.proofs.entries.terms_of_type.Given as goal

@@ -1,5 +1,5 @@
 use Rattle.std.proofs.Common.{◌≡◌, ◌++◌, drop, map}
-use Rattle.smt_types.specs.TextSets.{texts_of}
+use Rattle.smt_term.specs.TextSets.{texts_of}
 use Rattle.smt_symbolizer.specs.Listed.{listed_in}
 use Rattle.smt_symbolizer.specs.Named.{said}
 use Rattle.smt_symbolizer.specs.EntityView.{plain_data}

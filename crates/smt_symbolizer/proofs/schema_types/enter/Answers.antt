@@ -1,10 +1,10 @@
 use Rattle.std.proofs.Common.{ap, ◌∙◌}
-use Rattle.smt_types.specs.Entities.{bytes_of_type}
-use Rattle.smt_types.specs.Enums.{enums_of}
-use Rattle.smt_types.specs.TextSets.{sorted_texts, texts_of}
+use Rattle.smt_term.specs.Entities.{bytes_of_type}
+use Rattle.smt_term.specs.Enums.{enums_of}
+use Rattle.smt_term.specs.TextSets.{sorted_texts, texts_of}
 use Rattle.law_terms.specs.ValueOrder.{text_cmp}
 use Rattle.smt_symbolizer.proofs.Entered.{entered_as}
-use Rattle.smt_values.proofs.Ascending.{in_order}
+use Rattle.smt_term.proofs.InOrder.{in_order}
 use Rattle.smt_symbolizer.proofs.schema_types.enter.Goals as goal
 
 pub returns : goal.returns

@@ -1,7 +1,7 @@
 use Rattle.std.proofs.Common.{◌≡◌, ◌++◌, drop, map}
 use Rattle.std.specs.List.{filter_map}
 use Rattle.smt_values.specs.View.{entry_named}
-use Rattle.smt_types.specs.TextSets.{texts_of}
+use Rattle.smt_term.specs.TextSets.{texts_of}
 use Rattle.law_cedar.specs.Symbolized.{enum_entry}
 use Rattle.smt_symbolizer.specs.Named.{said}
 use Rattle.smt_symbolizer.proofs.schema_types.enum_types.Given as goal

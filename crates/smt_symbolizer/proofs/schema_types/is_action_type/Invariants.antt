@@ -1,6 +1,6 @@
 use Rattle.std.proofs.Common.{◌≡◌, drop, map}
 use Rattle.smt_values.specs.View.{plain_action}
-use Rattle.smt_types.specs.Entities.{bytes_of_type}
+use Rattle.smt_term.specs.Entities.{bytes_of_type}
 use Rattle.law_cedar.specs.Symbolized.{is_action_type}
 use Rattle.smt_symbolizer.proofs.schema_types.is_action_type.Given as goal
 

@@ -1,6 +1,6 @@
 use Rattle.std.proofs.Common.{◌≡◌, ℕ, List, drop, map}
-use Rattle.smt_types.specs.Enums.{enums_of}
-use Rattle.smt_types.specs.TextSets.{texts_of}
+use Rattle.smt_term.specs.Enums.{enums_of}
+use Rattle.smt_term.specs.TextSets.{texts_of}
 use Rattle.law_terms.specs.TypeValues.{members_of}
 use Rattle.smt_symbolizer.proofs.Entered.{in_both}
 use Rattle.smt_symbolizer.specs.Named.{said}

@@ -1,6 +1,6 @@
 use Rattle.std.proofs.Common.{◌≡◌, ◌++◌, drop, map}
 use Rattle.std.specs.Rc.{rc_str_bytes}
-use Rattle.smt_types.specs.Entities.{bytes_of_type}
+use Rattle.smt_term.specs.Entities.{bytes_of_type}
 use Rattle.smt_symbolizer.proofs.schema_types.types_named.Given as goal
 
 -- what is made and what there is of those that are left is what there is of all

@@ -1,8 +1,8 @@
 use Rattle.std.proofs.Common.{ℕ, List, map, ap, ◌∙◌}
 use Rattle.smt_values.specs.View.{plain_stored}
-use Rattle.smt_cedar.specs.EntityTypes.{types_held}
-use Rattle.smt_types.specs.Entities.{bytes_of_type}
-use Rattle.smt_types.specs.Enums.{enums_of}
+use Rattle.smt_values.specs.EntityTypes.{types_held}
+use Rattle.smt_term.specs.Entities.{bytes_of_type}
+use Rattle.smt_term.specs.Enums.{enums_of}
 use Rattle.law_terms.specs.Functions.{PlainUnary}
 use Rattle.smt_symbolizer.proofs.SortedTypes.{sorted_of}
 use Rattle.smt_symbolizer.specs.Stored.{ancestors_of}

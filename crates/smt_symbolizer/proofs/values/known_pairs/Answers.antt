@@ -1,5 +1,5 @@
 use Rattle.std.proofs.Common.{map, sym, ap, ◌∙◌}
-use Rattle.smt_cedar.specs.ValueView.{known_field, named_field}
+use Rattle.smt_values.specs.ValueView.{known_field, named_field}
 use Rattle.law_cedar.specs.Tables as stated
 use Rattle.smt_symbolizer.proofs.Walked.{mapped_done, mapped_refused}
 use Rattle.smt_values.proofs.Faults.{passes_on}

@@ -1,5 +1,5 @@
 use Rattle.std.proofs.Common.{drop, map}
-use Rattle.smt_cedar.specs.ValueView.{known_field, named_field}
+use Rattle.smt_values.specs.ValueView.{known_field, named_field}
 use Rattle.law_cedar.specs.Tables as stated
 use Rattle.smt_values.proofs.Walks.{Walking}
 use Rattle.smt_symbolizer.proofs.values.known_pairs.Given as goal

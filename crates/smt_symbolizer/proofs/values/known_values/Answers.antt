@@ -1,5 +1,5 @@
 use Rattle.std.proofs.Common.{Ok, map, sym, ap, ◌∙◌}
-use Rattle.smt_cedar.specs.ValueView.{named_field}
+use Rattle.smt_values.specs.ValueView.{named_field}
 use Rattle.smt_symbolizer.proofs.KnownPairs.{known_in_order}
 use Rattle.smt_symbolizer.proofs.values.known_values.Goals as goal
 

@@ -4,7 +4,7 @@ use Rattle.std.proofs.Common.{sym}
 use Rattle.law_terms.specs.ValueOrder.{text_cmp}
 use Rattle.law_terms.proofs.ValueOrder.{text_same}
 use Rattle.std.specs.Prelude.{bytes_eq}
-use Rattle.smt_types.proofs.LastPairs.{last_pairs}
+use Rattle.smt_term.proofs.LastPairs.{last_pairs}
 use Rattle.smt_term.proofs.laws.program_maps.Goals as goal
 
 pub returns : goal.returns

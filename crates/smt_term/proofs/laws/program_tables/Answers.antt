@@ -1,5 +1,5 @@
 use Rattle.std.proofs.Common.{refl}
-use Rattle.smt_types.proofs.LastPairs.{last_pairs}
+use Rattle.smt_term.proofs.LastPairs.{last_pairs}
 use Rattle.law_terms.proofs.SameTerm.{term_same}
 use Rattle.law_terms.proofs.TermTotal.{terms_total}
 use Rattle.law_terms.specs.TermOrder.{term_cmp, term_eq}

@@ -1,8 +1,8 @@
 use Rattle.smt_term.proofs.DerivedEquality.{eq_from_same, same_from_eq}
 use Rattle.smt_term.proofs.DerivedOrder.{term_cmp-is}
 use Rattle.smt_term.proofs.FormedTerms.{terms_are_formed}
-use Rattle.smt_types.proofs.DerivedOrder.{type_cmp-is}
-use Rattle.smt_types.proofs.SameType.{eq_from_same_type, same_type_from_eq}
+use Rattle.smt_term.proofs.DerivedTypeOrder.{type_cmp-is}
+use Rattle.smt_term.proofs.SameType.{eq_from_same_type, same_type_from_eq}
 use Rattle.smt_term.proofs.laws.program_terms.Goals as goal
 
 pub returns : goal.returns

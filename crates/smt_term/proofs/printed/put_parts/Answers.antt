@@ -1,7 +1,7 @@
 use Rattle.std.proofs.Common.{[], arith, map, refl, rules}
 use Rattle.std.proofs.Output.{has_written_append, has_written_of_eq, writes_in_calls_nil}
 use Rattle.std.specs.List.{flat_map}
-use Rattle.smt_types.specs.PatternView.{plain_part}
+use Rattle.smt_term.specs.PatternView.{plain_part}
 use Rattle.smt_term.specs.Printed.{part_text}
 use Rattle.smt_term.proofs.PrintedTexts.{next_item, no_item}
 use Rattle.smt_term.proofs.printed.put_parts.Goals as goal

@@ -1,7 +1,7 @@
 use Rattle.std.proofs.Common.{ℕ, ◌≡◌, ◌++◌, List, map, drop}
 use Rattle.std.specs.Fmt.{HasWritten, IsPlainFormatter}
 use Rattle.std.specs.List.{flat_map}
-use Rattle.smt_types.specs.PatternView.{plain_part}
+use Rattle.smt_term.specs.PatternView.{plain_part}
 use Rattle.smt_term.specs.Printed.{part_text}
 use Rattle.smt_term.proofs.printed.put_parts.Given as goal
 

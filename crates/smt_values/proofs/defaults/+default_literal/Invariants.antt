@@ -1,5 +1,5 @@
 use Rattle.std.proofs.Common.{◌≡◌, ◌++◌, drop, map}
-use Rattle.smt_types.specs.Enums.{enums_of}
+use Rattle.smt_term.specs.Enums.{enums_of}
 use Rattle.smt_term.specs.View.{plain_attribute, plain_field}
 use Rattle.law_terms.specs.Plain.{attribute_types}
 use Rattle.smt_values.specs.DefaultTerm.{default_fields}

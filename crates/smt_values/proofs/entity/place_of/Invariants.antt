@@ -1,6 +1,6 @@
 use Rattle.std.proofs.Common.{◌≡◌, ◌+◌, drop, map}
 use Rattle.std.specs.List.{position_or_len}
-use Rattle.smt_types.specs.Entities.{texts_of_entity}
+use Rattle.smt_term.specs.Entities.{texts_of_entity}
 use Rattle.smt_values.specs.Stores.{is_named}
 use Rattle.smt_values.specs.View.{plain_stored}
 use Rattle.smt_values.proofs.entity.place_of.Given as goal

@@ -1,6 +1,6 @@
 use Rattle.std.proofs.Common.{◌≡◌, ◌+◌, drop, map}
 use Rattle.std.specs.List.{position_or_len}
-use Rattle.smt_types.specs.Entities.{bytes_of_type}
+use Rattle.smt_term.specs.Entities.{bytes_of_type}
 use Rattle.smt_values.specs.Entries.{is_not_above}
 use Rattle.smt_values.specs.View.{entry_named}
 use Rattle.smt_values.proofs.entries.place_of.Given as goal

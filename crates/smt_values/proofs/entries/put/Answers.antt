@@ -1,7 +1,7 @@
 use Rattle.std.proofs.Common.{◌≡◌, ◌<◌, false, length, map, get_or, sym, ap, ◌∙◌, rules}
 use Rattle.std.proofs.lemmas.List.{get_or_default}
 use Rattle.std.specs.Prelude.{bytes_eq}
-use Rattle.smt_types.specs.Entities.{bytes_of_type}
+use Rattle.smt_term.specs.Entities.{bytes_of_type}
 use Rattle.smt_values.specs.View.{entry_named}
 use Rattle.smt_values.proofs.PutEntry.{entry_insert, place}
 use Rattle.smt_values.proofs.entries.put.Goals.{else-place-len-via-then-place-len+else-eq, else-place-len-via-else-place-len}

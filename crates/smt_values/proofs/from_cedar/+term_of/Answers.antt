@@ -2,11 +2,11 @@ use Rattle.std.proofs.Common.{List, ◌∙◌, ap, map, sym}
 use Rattle.smt_term.specs.View.{plain_field, plain_term, plain_type}
 use Rattle.smt_term.specs.declared.term.Term.{Term}
 use Rattle.law_terms.specs.TermSets.{set_term}
-use Rattle.smt_cedar.specs.TypeOfCedar.{type_of_cedar}
-use Rattle.smt_cedar.specs.TypeView.{plain_cedar}
-use Rattle.smt_cedar.specs.declared.cedar_type.CedarType.{CedarType}
-use Rattle.smt_cedar.specs.Plain.{value_fields}
-use Rattle.smt_cedar.specs.ValueView.{named_fields, values_held}
+use Rattle.smt_values.specs.TypeOfCedar.{type_of_cedar}
+use Rattle.smt_values.specs.TypeView.{plain_cedar}
+use Rattle.smt_values.specs.declared.cedar_type.CedarType.{CedarType}
+use Rattle.smt_values.specs.PlainValues.{value_fields}
+use Rattle.smt_values.specs.ValueView.{named_fields, values_held}
 use Rattle.smt_values.proofs.Faults.{passes_on}
 use Rattle.smt_values.proofs.Parts.{each_attribute, each_element, element_refused, pair_in, pair_refused, set_given, term_of_element}
 use Rattle.smt_values.proofs.Walks.{all_done, one_refused}

@@ -1,7 +1,7 @@
 use Rattle.std.proofs.Common.{drop, map}
 use Rattle.smt_term.specs.View.{plain_field, plain_term}
-use Rattle.smt_cedar.specs.Plain.{value_fields}
-use Rattle.smt_cedar.specs.ValueView.{named_fields}
+use Rattle.smt_values.specs.PlainValues.{value_fields}
+use Rattle.smt_values.specs.ValueView.{named_fields}
 use Rattle.smt_values.proofs.Parts.{pair_in, term_of_element}
 use Rattle.smt_values.proofs.Walks.{Walking}
 use Rattle.smt_values.proofs.from_cedar.+term_of.Given as goal

@@ -1,7 +1,7 @@
 use Rattle.std.proofs.Common.{◌≡◌, drop, map}
 use Rattle.std.specs.Rc.{rc_str_bytes}
-use Rattle.smt_cedar.specs.Plain.{value_fields}
-use Rattle.smt_cedar.specs.ValueView.{named_field}
+use Rattle.smt_values.specs.PlainValues.{value_fields}
+use Rattle.smt_values.specs.ValueView.{named_field}
 use Rattle.smt_values.specs.TermOfValue.{field_named}
 use Rattle.smt_values.proofs.from_cedar.field_named.Given as goal
 

@@ -1,4 +1,4 @@
-use Rattle.smt_values.proofs.StoreExamples as examples
+use Rattle.smt_values.proofs.StoreRows as examples
 use Rattle.smt_values.proofs.laws.stores_by_example.Goals as goal
 
 pub returns-clause-stores : goal.returns-clause-stores

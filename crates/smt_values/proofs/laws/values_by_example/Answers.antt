@@ -1,4 +1,4 @@
-use Rattle.smt_values.proofs.Examples as examples
+use Rattle.smt_values.proofs.Rows as examples
 use Rattle.smt_values.proofs.laws.values_by_example.Goals as goal
 
 pub returns-clause-parts : goal.returns-clause-parts

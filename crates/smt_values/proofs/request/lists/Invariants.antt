@@ -1,5 +1,5 @@
 use Rattle.std.proofs.Common.{◌≡◌, drop, map}
-use Rattle.smt_types.specs.Entities.{bytes_of_type}
+use Rattle.smt_term.specs.Entities.{bytes_of_type}
 use Rattle.smt_values.specs.Stores.{has_type}
 use Rattle.smt_values.proofs.request.lists.Given as goal
 

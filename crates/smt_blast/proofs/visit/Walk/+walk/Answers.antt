@@ -8,7 +8,7 @@ use Rattle.law_terms.specs.Meanings.{all_found, meanings}
 use Rattle.law_terms.specs.Nodes.{FunctionMeaning, TermMeaning, TypeMeaning}
 use Rattle.law_terms.specs.Parts.{term_parts}
 use Rattle.law_terms.specs.Plain.{Application, PlainFunction, PlainOp, PlainTerm, PlainTerms, PlainType, UufOp, list_of_terms}
-use Rattle.law_terms.specs.Reached.{variable_of}
+use Rattle.law_terms.specs.Reached.{reached_variable}
 use Rattle.law_terms.specs.Types.{is_type, result_type, type_of, types_of}
 use Rattle.law_terms.specs.Typing.{typed, typed_all}
 use Rattle.smt_nodes.specs.Interned.{meaning_in, nodes_of}
@@ -161,7 +161,7 @@ visit_new-returns-else-is_none-2 t c u vs m means ty w =
     let (ws, e, walk, kept, marks) = c.in_ok-visit_all-in-App.ensures ts vs found (inner_typed u o ts type is ty) w in
     let supported = a_circuit o c.circuit_of.result (c.is_none-in-App.ensures ∙ ap not c.if-is_none-2.false) c.circuit_of.ensures.found in
     visited old c.args.self.now c.visit_all.new.self c.mark.new.self vs ws u c.args.id 0 (answer ∙ is_taken o ws (walked_all vs ts) e supported) walk kept means ty
-    (λ v k. let clash = sym (ap variable_of is) ∙ k in absurd (cc))
+    (λ v k. let clash = sym (ap reached_variable is) ∙ k in absurd (cc))
     (λ p us y k. subst (λ xs. AllByRecursion (HasMark old c.visit_all.new.self.marks.items) (list_of_terms xs)) (let both = sym is ∙ k in cc) (terms_marked old c.visit_all.new.self.marks.items c.in-Some.parts.now (list_of_terms ts) found marks))
     c.mark.ensures.marks c.mark.ensures.variables
 
@@ -190,5 +190,5 @@ visit_new-returns-in_default-label-2 t c u vs m means ty w =
     let taken = sort_taken (type_of u) c.sort_at.result (c.is_none.ensures ∙ ap not c.if-is_none.false) (c.sort_at.ensures.found (type_of u) s.type) in
     let (l, is) = other_is_literal c.in-Some-label.label.now u (label_is old c.args.id _ u means c.in-Some-label.ensures) c.in_default-label-2.not-App c.in_default-label-2.not-Call c.in_default-label-2.not-Var taken in
     visited old c.args.self.now c.args.self.now c.mark-in_default-label-2.new.self vs vs u c.args.id 0 (ap (walked vs) is ∙ literal_walked vs l (ap type_refusal (sym (ap type_of is)) ∙ taken)) w (λ id k. k) means ty
-    (λ v k. let clash = sym (ap variable_of is) ∙ k in absurd (cc)) (λ p us y k. let clash = sym is ∙ k in absurd (cc))
+    (λ v k. let clash = sym (ap reached_variable is) ∙ k in absurd (cc)) (λ p us y k. let clash = sym is ∙ k in absurd (cc))
     c.mark-in_default-label-2.ensures.marks c.mark-in_default-label-2.ensures.variables

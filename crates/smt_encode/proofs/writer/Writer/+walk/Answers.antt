@@ -4,7 +4,7 @@ use Rattle.law_terms.specs.Parts.{parts_in}
 use Rattle.smt_nodes.specs.declared.interner.Interner.{Interner}
 use Rattle.std.specs.Io.KnownBytes.{append_known}
 use Rattle.law_terms.specs.Parts.{label_in}
-use Rattle.law_lines.specs.Fit.{Steps}
+use Rattle.law_lines.specs.Fit.{AreObeyable}
 use Rattle.law_lines.specs.Line.{Line, spelled_lines}
 use Rattle.law_texts.specs.Reading.{Expression}
 use Rattle.law_lines.specs.NameTables.{Tables}
@@ -214,7 +214,7 @@ encode_new-returns-in_err-put_heading-clause-lines g t c m meant s has =
     let part = part_along _ _ _ _ (ap (λ l. spelled_lines (heading l)) (is.label m meant)) c.in_err-put_heading.ensures.err in
     stops_with (encode_meaning (enums_under c.args.self.now.names) m s) IsSpelled _ c.from_residual-in_err-put_heading.result c.from_residual-in_err-put_heading.ensures.1
     (inside_lines c.args.self.now mid (heading (label_in m)) (w >>= own).lines _ s s _ (ap (λ (v : Written Expression). v.lines) (sym stated)) refl part has
-    (λ typed. subst (λ (l : List Line). Steps enums s l s) (append-nil (heading (label_in m))) (heading_steps enums (label_in m) s [] s (no_step enums s))))
+    (λ typed. subst (λ (l : List Line). AreObeyable enums s l s) (append-nil (heading (label_in m))) (heading_steps enums (label_in m) s [] s (no_step enums s))))
 
 pub encode_new-returns-in_err-texts-clause-lines : goal.encode_new-returns-in_err-texts-clause-lines
 encode_new-returns-in_err-texts-clause-lines g t c m meant s has =
@@ -232,7 +232,7 @@ encode_new-returns-in_err-texts-clause-lines g t c m meant s has =
     let inside = λ (typed : IsTrue (is_typed m)). written_all (λ m. IsTrue (is_typed m)) (rendering_in m) (parts_in m) (parts_typed m typed) in
     stops_with (encode_meaning (enums_under c.args.self.now.names) m s) IsSpelled c.in_err-texts.field-0.0 c.from_residual-in_err-texts.result c.from_residual-in_err-texts.ensures.1
     (stopped_behind c.args.self.now mid c.encode_all.new.self (heading (label_in m)) w.lines (own w.made w.tables).lines _ s c.in_err-texts.field-0.0 (ap (λ (v : Written Expression). v.lines) (sym stated)) put
-    (λ typed. subst (λ (l : List Line). Steps enums s l s) (append-nil (heading (label_in m))) (heading_steps enums (label_in m) s [] s (no_step enums s))) inside (c.in_err-texts.ensures.lines parts found s has))
+    (λ typed. subst (λ (l : List Line). AreObeyable enums s l s) (append-nil (heading (label_in m))) (heading_steps enums (label_in m) s [] s (no_step enums s))) inside (c.in_err-texts.ensures.lines parts found s has))
 
 pub encode_new-returns-clause-lines : goal.encode_new-returns-clause-lines
 encode_new-returns-clause-lines g t c m meant s has =
@@ -255,7 +255,7 @@ encode_new-returns-clause-lines g t c m meant s has =
     let finds = subst (λ (e : Enums). Finds write_fault (meaning_fault e m) c.finish.result) walked.enums (c.finish.ensures.fault m there) in
     let front = λ (typed : IsTrue (is_typed m)). heading_steps enums (label_in m) s w.lines w.tables
     (meanings_steps enums parts s (written_all (λ m. IsTrue (is_typed m)) (rendering_in m) (parts_in m) (parts_typed m typed)) (all_formed nodes (places_of c.items-2.result.now) parts found) (c.in_ok-texts.ensures.fault parts found)) in
-    let whole = λ (typed : IsTrue (is_typed m)) (none : meaning_fault enums m ≡ None). subst (λ (v : Written Expression). Steps enums s v.lines v.tables) stated (meaning_steps enums m s typed (formed nodes c.args.id m meant) none) in
+    let whole = λ (typed : IsTrue (is_typed m)) (none : meaning_fault enums m ≡ None). subst (λ (v : Written Expression). AreObeyable enums s v.lines v.tables) stated (meaning_steps enums m s typed (formed nodes c.args.id m meant) none) in
     subst (λ (v : Written Expression). WritesOrStopsHere g.S.Sink.contents enums (IsTrue (is_typed m)) s c.args.self.now c.finish.new.self v IsSpelled c.finish.result) (sym stated)
     (node_written c.args.self.now mid c.encode_all.new.self c.finish.new.self (heading (label_in m)) w own IsSpelled (meaning_fault enums m) c.finish.result put wrote.0 finished finds front whole)
 

@@ -1,6 +1,6 @@
 use Rattle.std.proofs.Common.{ℕ, List, [], ap, refl, subst, sym, ◌∙◌}
 use Rattle.law_terms.specs.Nodes.{EntityLabel, TypeMeaning}
-use Rattle.smt_types.specs.Entities.{bytes_of_type}
+use Rattle.smt_term.specs.Entities.{bytes_of_type}
 use Rattle.law_terms.specs.Plain.{EntityType}
 use Rattle.smt_nodes.specs.Interned.{meaning_in}
 use Rattle.smt_spelling.specs.Names.{enums_under, nodes_under, KeepTables}

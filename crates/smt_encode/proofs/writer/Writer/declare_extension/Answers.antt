@@ -1,6 +1,6 @@
 use Rattle.std.proofs.Common.{ℕ, List, [], ap, refl, subst, sym, ◌∙◌}
 use Rattle.law_terms.specs.Nodes.{ExtensionLabel, TypeMeaning}
-use Rattle.smt_types.specs.ExtensionView.{plain_kind}
+use Rattle.smt_term.specs.ExtensionView.{plain_kind}
 use Rattle.law_terms.specs.Plain.{ExtensionType}
 use Rattle.smt_nodes.specs.Interned.{meaning_in}
 use Rattle.smt_spelling.specs.Names.{enums_under, nodes_under, KeepTables}

@@ -4,9 +4,9 @@ use Rattle.law_texts.specs.SharedTexts.{texts}
 use Rattle.law_terms.specs.Nodes.{Meaning, PlainLabel, RecordLabel, TypeMeaning}
 use Rattle.smt_nodes.specs.Attributes.{attributes_of}
 use Rattle.law_terms.specs.Parts.{label_in, parts_in}
-use Rattle.smt_types.specs.Entities.{bytes_of_type}
-use Rattle.smt_types.specs.Enums.{enums_of}
-use Rattle.smt_types.specs.ExtensionView.{plain_kind}
+use Rattle.smt_term.specs.Entities.{bytes_of_type}
+use Rattle.smt_term.specs.Enums.{enums_of}
+use Rattle.smt_term.specs.ExtensionView.{plain_kind}
 use Rattle.law_lines.specs.Lines.{Enums}
 use Rattle.law_terms.specs.Faults.{Fault}
 use Rattle.law_terms.specs.Plain.{EntityType, ExtensionType, RecordType}

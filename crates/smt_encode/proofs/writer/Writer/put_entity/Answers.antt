@@ -1,6 +1,6 @@
 use Rattle.std.proofs.Common.{ℕ, List, Option, ap, subst, ◌∙◌}
 use Rattle.std.specs.Prelude.{IfOk}
-use Rattle.smt_types.specs.Entities.{bytes_of_id, bytes_of_type}
+use Rattle.smt_term.specs.Entities.{bytes_of_id, bytes_of_type}
 use Rattle.law_lines.specs.Lines.{members_of}
 use Rattle.smt_spelling.specs.Entries.{entity_entry, entry_bytes, SaysEntry}
 use Rattle.smt_encode.specs.Alone.{name_of_entity, PutUnder}

@@ -1,6 +1,6 @@
 use Rattle.std.proofs.Common.{◌≡◌, ap, refl, sym, ◌∙◌}
 use Rattle.std.specs.Io.KnownBytes.{append_known}
-use Rattle.smt_types.specs.Entities.{bytes_of_type}
+use Rattle.smt_term.specs.Entities.{bytes_of_type}
 use Rattle.law_lines.specs.Line.{spelled_lines}
 use Rattle.law_lines.specs.LineForms.{entity_lines}
 use Rattle.law_lines.specs.Lines.{members_of, next_entity}

@@ -3,7 +3,7 @@ use Rattle.std.proofs.lemmas.Result.{IfOk-weaker, on_err_weaker}
 use Rattle.std.specs.Io.KnownBytes.{append_known}
 use Rattle.law_texts.specs.LineTexts.{declare_datatype_text}
 use Rattle.law_texts.specs.SharedTexts.{texts}
-use Rattle.smt_types.specs.ExtensionView.{plain_kind}
+use Rattle.smt_term.specs.ExtensionView.{plain_kind}
 use Rattle.law_lines.specs.EntryNames.{kind_name}
 use Rattle.law_lines.specs.Line.{spelled_lines}
 use Rattle.law_lines.specs.LineForms.{kind_lines}

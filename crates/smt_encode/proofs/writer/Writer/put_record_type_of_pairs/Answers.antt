@@ -1,7 +1,7 @@
 use Rattle.std.proofs.Common.{◌≡◌, ℕ, List, ap, subst, ◌∙◌}
 use Rattle.std.specs.Prelude.{IfOk}
 use Rattle.law_texts.specs.SharedTexts.{texts}
-use Rattle.smt_types.specs.Pairs.{attributes_in}
+use Rattle.smt_term.specs.Pairs.{attributes_in}
 use Rattle.law_lines.specs.Line.{spelled_lines}
 use Rattle.law_lines.specs.LineForms.{record_lines}
 use Rattle.law_lines.specs.Lines.{next_record}

@@ -1,7 +1,7 @@
 use Rattle.std.proofs.Common.{ap}
 use Rattle.std.specs.Ordering.{is_eq}
 use Rattle.law_terms.specs.Types.{type_eq}
-use Rattle.smt_types.proofs.DerivedOrder.{type_cmp-is}
+use Rattle.smt_term.proofs.DerivedTypeOrder.{type_cmp-is}
 use Rattle.smt_term.specs.View.{plain_term, plain_type}
 use Rattle.smt_eval.proofs.Entries.{finds_said}
 use Rattle.smt_eval.proofs.assignment.Assignment.get.Goals as goal

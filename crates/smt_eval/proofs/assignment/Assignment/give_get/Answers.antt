@@ -1,7 +1,7 @@
 use Rattle.std.proofs.Common.{ap, ◌∙◌}
 use Rattle.law_terms.specs.Types.{type_cmp}
 use Rattle.law_terms.proofs.TypeOrder.{type_itself}
-use Rattle.smt_types.proofs.DerivedOrder.{type_cmp-is}
+use Rattle.smt_term.proofs.DerivedTypeOrder.{type_cmp-is}
 use Rattle.smt_term.specs.View.{plain_type}
 use Rattle.smt_eval.proofs.assignment.Assignment.give_get.Goals as goal
 

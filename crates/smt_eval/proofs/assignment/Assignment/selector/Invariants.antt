@@ -1,7 +1,7 @@
 use Rattle.std.proofs.Common.{◌≡◌, drop, map}
 use Rattle.std.specs.Map.{lookup}
 use Rattle.law_terms.specs.Interpretations.{selector_eq}
-use Rattle.smt_types.specs.ExtensionView.{plain_extension_op}
+use Rattle.smt_term.specs.ExtensionView.{plain_extension_op}
 use Rattle.smt_eval.specs.AssignmentView.{plain_selector}
 use Rattle.smt_eval.proofs.assignment.Assignment.selector.Given as goal
 

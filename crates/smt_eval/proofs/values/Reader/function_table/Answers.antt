@@ -1,7 +1,7 @@
 use Rattle.std.proofs.Common.{◌≡◌, Some, true, false, bytes_eq, ap, ◌∙◌, subst}
 use Rattle.std.specs.Map.{lookup}
 use Rattle.std.specs.Prelude.{is_some}
-use Rattle.law_assignments.specs.Entries.{function_of, table_of}
+use Rattle.law_assignments.specs.Entries.{assigned_function, table_of}
 use Rattle.law_assignments.specs.Outcomes.{UnknownEntry}
 use Rattle.law_jobs.specs.Declarations.{declared}
 use Rattle.law_terms.specs.Plain.{PlainFunction, PlainType}
@@ -25,6 +25,6 @@ returns c ds reads =
     let whole =
     subst (λ (t : PlainType). IsInputReadAs plain_definition c.table.result (table_of ds t f.output (λ k. true) w)) (ap (λ (u : Uuf). plain_type u.arg) c.deref.ensures)
     (subst (λ (t : PlainType). IsInputReadAs plain_definition c.table.result (table_of ds (plain_type c.deref.result.now.arg) t (λ k. true) w)) (ap (λ (u : Uuf). plain_type u.out) c.deref-2.ensures) (c.table.ensures ds reads)) in
-    read_on plain_definition (λ table. (w.name, plain_definition table)) c.table.result (table_of ds f.argument f.output (λ k. true) w) (function_of ds given w) whole
+    read_on plain_definition (λ table. (w.name, plain_definition table)) c.table.result (table_of ds f.argument f.output (λ k. true) w) (assigned_function ds given w) whole
     (value_fault (UnknownEntry w.name) (declared ds.functions w.name) (λ g. lookup (bytes_eq w.name) given) w.name (λ (g : PlainFunction) n. table_of ds g.argument g.output (λ k. true) w) (λ g n d. (n, d)) f found once)
     (λ x h. stated_so (UnknownEntry w.name) (declared ds.functions w.name) (λ g. lookup (bytes_eq w.name) given) w.name (λ (g : PlainFunction) n. table_of ds g.argument g.output (λ k. true) w) (λ g n d. (n, d)) f found once (plain_definition x) h)

@@ -4,7 +4,7 @@ use Rattle.std.specs.Rc.{rc_str_bytes}
 use Rattle.law_assignments.specs.Entries.{pair_of}
 use Rattle.smt_term.specs.Tables.{plain_entry}
 use Rattle.smt_term.specs.View.{plain_term, plain_type}
-use Rattle.smt_types.specs.ExtensionView.{plain_extension_op}
+use Rattle.smt_term.specs.ExtensionView.{plain_extension_op}
 use Rattle.smt_eval.specs.ReaderView.{HasKeys, takes_key}
 use Rattle.smt_eval.specs.WrittenView.{plain_pair}
 use Rattle.smt_eval.proofs.InputReading.{entry_fault, one_more_entry, passes_on}

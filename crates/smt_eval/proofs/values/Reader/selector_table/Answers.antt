@@ -9,9 +9,9 @@ use Rattle.law_terms.specs.Plain.{ExtensionType, IpAddrKind}
 use Rattle.law_terms.specs.Types.{extension_signature}
 use Rattle.smt_term.specs.Functions.{plain_definition}
 use Rattle.smt_term.specs.View.{plain_type, plain_type-Ext}
-use Rattle.smt_types.specs.declared.extension.ExtType.TheVariants.{IpAddr}
-use Rattle.smt_types.specs.declared.types.TermType.{Ext}
-use Rattle.smt_types.specs.ExtensionView.{plain_extension_op}
+use Rattle.smt_term.specs.declared.extension.ExtType.TheVariants.{IpAddr}
+use Rattle.smt_term.specs.declared.types.TermType.{Ext}
+use Rattle.smt_term.specs.ExtensionView.{plain_extension_op}
 use Rattle.smt_eval.specs.AssignmentView.{plain_assignment, plain_selector}
 use Rattle.smt_eval.specs.WrittenView.{plain_written_table}
 use Rattle.smt_eval.proofs.Entered.{found_so, stated_so, value_fault}

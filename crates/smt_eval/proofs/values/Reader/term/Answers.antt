@@ -2,7 +2,7 @@ use Rattle.std.proofs.Common.{◌≡◌, rules}
 use Rattle.law_folding.specs.Built.{built}
 use Rattle.law_jobs.specs.Outcomes.{mapped}
 use Rattle.law_jobs.specs.Terms.{term_of}
-use Rattle.smt_job_declarations.specs.declared.error.JobError.TheVariants.{Memory}
+use Rattle.smt_job_terms.specs.declared.error.JobError.TheVariants.{Memory}
 use Rattle.smt_sexpr.specs.View.{plain}
 use Rattle.smt_eval.proofs.Refused.{builds_nothing, states_nothing}
 use Rattle.smt_eval.proofs.values.Reader.term.Goals as goal

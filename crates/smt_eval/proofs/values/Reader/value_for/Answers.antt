@@ -1,8 +1,8 @@
 use Rattle.std.proofs.Common.{option_map, sym}
 use Rattle.smt_sexpr.specs.View.{plain}
 use Rattle.smt_term.specs.View.{plain_term, plain_type}
-use Rattle.smt_types.specs.Enums.{enums_of}
-use Rattle.smt_types.specs.ExtensionView.{plain_extension_op}
+use Rattle.smt_term.specs.Enums.{enums_of}
+use Rattle.smt_term.specs.ExtensionView.{plain_extension_op}
 use Rattle.smt_eval.specs.ReaderView.{takes_key}
 use Rattle.smt_eval.proofs.ReadValues.{states_no_key, states_no_value, states_value}
 use Rattle.smt_eval.proofs.values.Reader.value_for.Goals as goal

@@ -1,7 +1,7 @@
 use Rattle.std.proofs.Common.{◌+◌, ◌*◌, ◌^◌, [], ◌∷◌, Some, None, refl, arith, inr}
 use Rattle.std.specs.Prelude.{codes}
 use Rattle.std.specs.Fmt.{digits}
-use Rattle.smt_ext.specs.IpExamples.{ten_24, ten_29, counted, every_v4}
+use Rattle.smt_ext.specs.IpRows.{ten_24, ten_29, counted, every_v4}
 use Rattle.smt_ext.specs.IpText.{IsDotted, IsColonText}
 use Rattle.smt_ext.proofs.IpContained.{LiesIn-from, LiesIn-shares}
 use Rattle.smt_ext.proofs.laws.ip.rows.Goals as goal

@@ -2,7 +2,7 @@ use Rattle.std.proofs.Common.{◌≡◌, ◌∷◌, ◌++◌, [], Some, map, sym
 use Rattle.std.proofs.lemmas.List.{take_all}
 use Rattle.law_texts.specs.SharedTexts.{texts}
 use Rattle.law_terms.specs.Parts.{field_names, field_terms}
-use Rattle.smt_types.specs.Pairs.{attributes_in}
+use Rattle.smt_term.specs.Pairs.{attributes_in}
 use Rattle.smt_nodes.specs.Attributes.{attributes_of}
 use Rattle.std.proofs.lemmas.Result.{IfOk-weaker}
 use Rattle.std.specs.Rc.{rc_str_bytes}

@@ -3,7 +3,7 @@ use Rattle.std.proofs.lemmas.List.{take_all}
 use Rattle.law_texts.specs.SharedTexts.{texts}
 use Rattle.law_terms.specs.Meanings.{all_found, meanings, stands_for}
 use Rattle.law_terms.specs.Parts.{types_in, attribute_names}
-use Rattle.smt_types.specs.Pairs.{attributes_in}
+use Rattle.smt_term.specs.Pairs.{attributes_in}
 use Rattle.smt_nodes.proofs.MapNames.{type_names}
 use Rattle.smt_nodes.proofs.RecordParts.{types_ascend, types_listing, types_meant}
 use Rattle.smt_nodes.specs.Attributes.{attributes_of}
@@ -11,7 +11,7 @@ use Rattle.smt_nodes.specs.View.{places_of}
 use Rattle.std.proofs.lemmas.Result.{IfOk-weaker}
 use Rattle.law_terms.specs.Plain.{EntityType, OptionType, RecordType, SetType, attribute_types}
 use Rattle.law_terms.specs.Nodes.{RecordLabel, TypeMeaning}
-use Rattle.smt_types.specs.Entities.{bytes_of_type}
+use Rattle.smt_term.specs.Entities.{bytes_of_type}
 use Rattle.smt_term.specs.View.{attributes_held, plain_attributes, plain_type, plain_type-Record, plain_type-Option, plain_type-Bitvec, plain_type-Bool, plain_type-Entity, plain_type-Ext, plain_type-String, plain_type-Set}
 use Rattle.smt_nodes.proofs.Interning.{all_kept, one_found, pushed, record_type_means}
 use Rattle.smt_nodes.specs.Interned.{nodes_of}

@@ -6,8 +6,8 @@ use Rattle.law_terms.specs.Meanings.{all_found, meanings}
 use Rattle.law_terms.specs.Nodes.{TypeMeaning}
 use Rattle.law_terms.specs.Parts.{types_in, attribute_names}
 use Rattle.law_terms.proofs.Places.{some_same}
-use Rattle.smt_types.specs.Entities.{bytes_of_type}
-use Rattle.smt_types.specs.ExtensionView.{plain_kind}
+use Rattle.smt_term.specs.Entities.{bytes_of_type}
+use Rattle.smt_term.specs.ExtensionView.{plain_kind}
 use Rattle.law_terms.specs.Plain.{EntityType, RecordType, attribute_types}
 use Rattle.law_terms.specs.ValueOrder.{ascends, text_cmp}
 use Rattle.smt_bits.specs.Width.{bits_in}

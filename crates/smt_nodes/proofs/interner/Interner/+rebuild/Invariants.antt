@@ -1,7 +1,7 @@
 use Rattle.std.proofs.Common.{◌≡◌, ◌+◌, ◌*◌, Some, take}
 use Rattle.law_texts.specs.SharedTexts.{texts}
 use Rattle.law_terms.specs.Meanings.{all_found, meanings}
-use Rattle.smt_types.specs.Pairs.{attributes_in}
+use Rattle.smt_term.specs.Pairs.{attributes_in}
 use Rattle.smt_nodes.proofs.RecordParts.{types_meant}
 use Rattle.smt_nodes.specs.Interned.{nodes_of}
 use Rattle.smt_nodes.specs.View.{place_of, places_of}

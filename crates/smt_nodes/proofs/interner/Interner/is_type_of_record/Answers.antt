@@ -3,7 +3,7 @@ use Rattle.std.specs.Prelude.{Some}
 use Rattle.law_texts.specs.SharedTexts.{texts}
 use Rattle.law_terms.specs.Meanings.{meanings}
 use Rattle.law_terms.specs.Parts.{field_names}
-use Rattle.smt_types.specs.Pairs.{attributes_in}
+use Rattle.smt_term.specs.Pairs.{attributes_in}
 use Rattle.smt_term.specs.View.{fields_of, plain_fields}
 use Rattle.law_terms.specs.Plain.{record_fields}
 use Rattle.smt_nodes.proofs.RecordFitting.{other_attributes, record_at, type_of_fields}

@@ -3,7 +3,7 @@ use Rattle.std.specs.Rc.{rc_str_bytes}
 use Rattle.law_terms.specs.Parts.{term_label}
 use Rattle.law_terms.specs.Plain.{terms}
 use Rattle.law_texts.specs.SharedTexts.{texts}
-use Rattle.smt_types.specs.Pairs.{attributes_in}
+use Rattle.smt_term.specs.Pairs.{attributes_in}
 use Rattle.smt_nodes.proofs.MapNames.{term_names}
 use Rattle.smt_term.specs.View.{fields_of, plain_items, plain_term, plain_type, plain_term-App, plain_term-None, plain_term-Prim, plain_term-Record, plain_term-Set, plain_term-Some, plain_term-Var}
 use Rattle.smt_nodes.proofs.Matching.{at_label, label_is, literal_is, no_literal, no_record, no_variable, record_of_is, text_is}

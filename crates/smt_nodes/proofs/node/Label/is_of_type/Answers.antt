@@ -1,8 +1,8 @@
 use Rattle.std.proofs.Common.{sym, ap, ◌∙◌}
 use Rattle.law_terms.specs.Parts.{type_label}
-use Rattle.smt_types.specs.Entities.{bytes_of_type}
+use Rattle.smt_term.specs.Entities.{bytes_of_type}
 use Rattle.law_texts.specs.SharedTexts.{texts}
-use Rattle.smt_types.specs.Pairs.{attributes_in}
+use Rattle.smt_term.specs.Pairs.{attributes_in}
 use Rattle.smt_nodes.proofs.MapNames.{type_names}
 use Rattle.smt_term.specs.View.{attributes_held, plain_type, plain_type-Option, plain_type-Bitvec, plain_type-Bool, plain_type-Entity, plain_type-Ext, plain_type-Record, plain_type-String, plain_type-Set}
 use Rattle.smt_nodes.proofs.Matching.{at_type_label, entity_type_is, label_is, no_entity_type, no_record_label, record_type_is}

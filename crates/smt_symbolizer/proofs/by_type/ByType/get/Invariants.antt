@@ -1,7 +1,7 @@
 use Rattle.std.proofs.Common.{◌≡◌, drop, map}
 use Rattle.std.specs.Map.{lookup}
 use Rattle.std.specs.Prelude.{bytes_eq}
-use Rattle.smt_types.specs.Entities.{bytes_of_type}
+use Rattle.smt_term.specs.Entities.{bytes_of_type}
 use Rattle.smt_symbolizer.specs.Named.{named}
 use Rattle.smt_symbolizer.proofs.by_type.ByType.get.Given as goal
 

@@ -1,6 +1,6 @@
 use Rattle.std.proofs.Common.{sym, ap}
 use Rattle.smt_values.specs.View.{plain_env, plain_request_env, plain_schema}
-use Rattle.smt_types.specs.Enums.{enums_of}
+use Rattle.smt_term.specs.Enums.{enums_of}
 use Rattle.law_cedar.specs.Symbolized.{environment_with, listed_types}
 use Rattle.smt_symbolizer.proofs.Given.{err_given, ok_given}
 use Rattle.smt_symbolizer.proofs.SameDefaults.{same_defaults}

@@ -1,7 +1,7 @@
 use Rattle.std.proofs.Common.{◌≡◌, map, take}
 use Rattle.law_terms.specs.ValueOrder.{text_cmp}
 use Rattle.smt_term.specs.Maps.{plain_field}
-use Rattle.smt_types.specs.SortedPairs.{sorted_pairs}
+use Rattle.smt_term.specs.SortedPairs.{sorted_pairs}
 use Rattle.smt_term.proofs.maps.TermMap.in_order.Given as goal
 
 -- what is found is the pairs so far in order

@@ -1,5 +1,5 @@
 use Rattle.std.proofs.Common.{map}
-use Rattle.smt_types.proofs.AscendingPairs.{pairs_ascend}
+use Rattle.smt_term.proofs.AscendingPairs.{pairs_ascend}
 use Rattle.smt_term.specs.Maps.{plain_field}
 use Rattle.smt_term.specs.View.{plain_term}
 use Rattle.smt_term.proofs.maps.TermMap.new.Goals as goal

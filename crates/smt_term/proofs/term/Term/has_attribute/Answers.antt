@@ -4,7 +4,7 @@ use Rattle.std.specs.Rc.{rc_str_bytes}
 use Rattle.law_terms.specs.Types.{type_of}
 use Rattle.smt_term.specs.View.{plain_term}
 use Rattle.smt_term.proofs.RecordFields.{field_found}
-use Rattle.smt_types.proofs.RecordTypes.{is_some-mapped}
+use Rattle.smt_term.proofs.RecordTypes.{is_some-mapped}
 use Rattle.smt_term.proofs.term.Term.has_attribute.Goals as goal
 
 pub returns-in-Record : goal.returns-in-Record

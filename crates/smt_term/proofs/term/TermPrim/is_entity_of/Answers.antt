@@ -1,9 +1,9 @@
 use Rattle.std.proofs.Common.{ap, sym, ◌∙◌}
 use Rattle.law_terms.specs.Plain.{EntityType}
 use Rattle.law_terms.specs.Types.{literal_type, type_eq}
-use Rattle.smt_types.specs.Entities.{bytes_of_type}
+use Rattle.smt_term.specs.Entities.{bytes_of_type}
 use Rattle.smt_term.specs.View.{plain_literal}
-use Rattle.smt_types.proofs.SameType.{entity_eq-is}
+use Rattle.smt_term.proofs.SameType.{entity_eq-is}
 use Rattle.smt_term.proofs.term.TermPrim.is_entity_of.Goals as goal
 
 pub returns-in-Entity : goal.returns-in-Entity

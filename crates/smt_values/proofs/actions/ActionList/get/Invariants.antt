@@ -1,5 +1,5 @@
 use Rattle.std.proofs.Common.{◌≡◌, map, option_map, take}
-use Rattle.smt_types.specs.Entities.{texts_of_entity}
+use Rattle.smt_term.specs.Entities.{texts_of_entity}
 use Rattle.smt_values.specs.Stores.{action_of}
 use Rattle.smt_values.specs.View.{plain_action}
 use Rattle.smt_values.proofs.actions.ActionList.get.Given as goal

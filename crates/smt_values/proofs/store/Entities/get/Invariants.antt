@@ -1,5 +1,5 @@
 use Rattle.std.proofs.Common.{◌≡◌, drop, map}
-use Rattle.smt_types.specs.Entities.{texts_of_entity}
+use Rattle.smt_term.specs.Entities.{texts_of_entity}
 use Rattle.smt_values.specs.Stores.{entity_of}
 use Rattle.smt_values.specs.View.{plain_stored}
 use Rattle.smt_values.proofs.store.Entities.get.Given as goal

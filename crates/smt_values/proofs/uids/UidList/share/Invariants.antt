@@ -1,5 +1,5 @@
 use Rattle.std.proofs.Common.{◌≡◌, map, take}
-use Rattle.smt_types.specs.Entities.{texts_of_entity}
+use Rattle.smt_term.specs.Entities.{texts_of_entity}
 use Rattle.smt_values.proofs.uids.UidList.share.Given as goal
 
 -- what is made says what those so far say

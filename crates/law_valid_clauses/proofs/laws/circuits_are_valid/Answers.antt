@@ -1,5 +1,0 @@
-use Rattle.law_valid_clauses.proofs.Bits.{circuits_are_valid}
-use Rattle.law_valid_clauses.proofs.laws.circuits_are_valid.Goals as goal
-
-pub returns : goal.returns
-returns c = circuits_are_valid

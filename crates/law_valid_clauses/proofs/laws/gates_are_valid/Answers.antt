@@ -1,5 +1,0 @@
-use Rattle.law_valid_clauses.proofs.Gates.{gates_are_valid}
-use Rattle.law_valid_clauses.proofs.laws.gates_are_valid.Goals as goal
-
-pub returns : goal.returns
-returns c = gates_are_valid

@@ -1,5 +1,0 @@
-use Rattle.law_valid_clauses.proofs.PatternTests.{pattern_tests_hold}
-use Rattle.law_valid_clauses.proofs.laws.pattern_tests_hold.Goals as goal
-
-pub returns : goal.returns
-returns c = pattern_tests_hold

@@ -1,5 +1,0 @@
-use Rattle.law_valid_clauses.proofs.ProductOverflows.{product_overflows_are_valid}
-use Rattle.law_valid_clauses.proofs.laws.product_overflows_are_valid.Goals as goal
-
-pub returns : goal.returns
-returns c = product_overflows_are_valid

@@ -1,5 +1,0 @@
-use Rattle.law_valid_clauses.proofs.Records.{records_are_valid}
-use Rattle.law_valid_clauses.proofs.laws.records_are_valid.Goals as goal
-
-pub returns : goal.returns
-returns c = records_are_valid

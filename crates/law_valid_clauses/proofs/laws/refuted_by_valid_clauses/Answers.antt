@@ -1,5 +1,0 @@
-use Rattle.law_valid_clauses.proofs.Sequents.{refuted}
-use Rattle.law_valid_clauses.proofs.laws.refuted_by_valid_clauses.Goals as goal
-
-pub returns : goal.returns
-returns c = refuted

@@ -1,6 +1,0 @@
-use Rattle.std.proofs.Common.{[], ◌∷◌, rules}
-use Rattle.law_terms.specs.Plain.{Application, BoolType, BvnegoOp, terms}
-use Rattle.program_tests.proofs.sharing.overflows.Goals as goal
-
-pub returns : goal.returns
-returns g c = (Application BvnegoOp (terms (c.requires.term ∷ [])) BoolType ∷ [], search rules, search rules)

@@ -1,5 +1,0 @@
-pub mod Applying
-pub mod Folding
-pub mod Giving
-pub mod Looking
-pub mod Plainly

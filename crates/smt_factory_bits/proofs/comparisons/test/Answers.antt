@@ -1,4 +1,0 @@
-use Rattle.smt_factory_bits.proofs.comparisons.test.Goals as goal
-
-pub returns : goal.returns
-returns g c = c.folded_by.ensures

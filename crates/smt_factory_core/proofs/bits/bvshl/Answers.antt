@@ -1,0 +1,11 @@
+use Rattle.std.proofs.Common.{refl}
+use Rattle.std.proofs.lemmas.Result.{IfOk-weaker}
+use Rattle.smt_factory_core.proofs.Values.{bits_folded, shift_computes, stands_for_bits}
+use Rattle.smt_factory_core.proofs.bits.bvshl.Goals as goal
+use Rattle.law_numbers.specs.BitOperators.{BvshlOp}
+
+pub returns-clause-folded : goal.returns-clause-folded
+returns-clause-folded c = IfOk-weaker c.bvapp.result _ _ (λ r h. bits_folded _ _ BvshlOp (λ p q x k. shift_computes BvshlOp _ p.now q.now x (λ n. refl) k) _ _ _ h) c.bvapp.ensures.folded
+
+pub returns-clause-refines : goal.returns-clause-refines
+returns-clause-refines c = IfOk-weaker c.bvapp.result _ _ (λ r h. stands_for_bits BvshlOp _ _ _ h) (returns-clause-folded c)

@@ -1,0 +1,11 @@
+use Rattle.std.proofs.Common.{refl}
+use Rattle.std.proofs.lemmas.Result.{IfOk-weaker}
+use Rattle.smt_factory_core.proofs.Values.{bits_folded, computes, stands_for_bits}
+use Rattle.smt_factory_core.proofs.bits.bvsub.Goals as goal
+use Rattle.law_numbers.specs.BitOperators.{BvsubOp}
+
+pub returns-clause-folded : goal.returns-clause-folded
+returns-clause-folded c = IfOk-weaker c.bvapp.result _ _ (λ r h. bits_folded _ _ BvsubOp (λ p q x k. computes BvsubOp _ p.now q.now x (λ n. refl) k) _ _ _ h) c.bvapp.ensures.folded
+
+pub returns-clause-refines : goal.returns-clause-refines
+returns-clause-refines c = IfOk-weaker c.bvapp.result _ _ (λ r h. stands_for_bits BvsubOp _ _ _ h) (returns-clause-folded c)

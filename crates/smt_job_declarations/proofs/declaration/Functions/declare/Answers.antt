@@ -1,7 +1,0 @@
-use Rattle.smt_job_declarations.specs.DeclarationView.{HasFunctions, plain_declared_function}
-use Rattle.smt_job_declarations.proofs.Declaring.{declares_next}
-use Rattle.smt_job_declarations.proofs.declaration.Functions.declare.Goals as goal
-
-pub returns : goal.returns
-returns c fs has =
-    declares_next (HasFunctions c.enter.new.self) fs (plain_declared_function c.in_ok-function.function) _ c.enter.result (c.in_ok-function.ensures.stated fs has) (c.enter.ensures.entered fs has (c.in_ok-function.ensures.undeclared fs has)) c.enter.ensures.refusal

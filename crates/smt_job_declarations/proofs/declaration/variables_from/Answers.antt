@@ -1,9 +1,0 @@
-use Rattle.law_jobs.specs.Declarations.{variable_of}
-use Rattle.smt_job_declarations.specs.DeclarationView.{HasVariables}
-use Rattle.smt_job_declarations.proofs.DeclaredLists.{variables_in, variables_listed}
-use Rattle.smt_job_declarations.proofs.Declaring.{next_declared}
-use Rattle.smt_job_declarations.proofs.declaration.variables_from.Goals as goal
-
-pub loop-item-preserved : goal.loop-item-preserved
-loop-item-preserved c =
-    next_declared HasVariables variables_in variables_listed variable_of _ c.args.items.now c.loop-item.item-index c.item-item.result c.loop-item.invariant c.loop-item-test.true c.item-item.is c.declare.new.self (c.in_ok-declare.ensures _ c.loop-item.invariant.declares)

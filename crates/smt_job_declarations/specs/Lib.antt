@@ -1,3 +1,0 @@
-pub mod DeclarationView
-pub mod EnumView
-pub mod ReadAs

@@ -1,0 +1,14 @@
+pub mod DeclaredLists
+pub mod Declaring
+pub mod EnumsEntered
+pub mod ExtensionNames
+pub mod ExtensionsRead
+pub mod FormsRead
+pub mod LookUps
+pub mod Operators
+pub mod PatternsRead
+pub mod Places
+pub mod Reading
+pub mod TermsRead
+pub mod TypesRead
+pub mod WholeTerms

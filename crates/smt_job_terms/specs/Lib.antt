@@ -1,0 +1,4 @@
+pub mod DeclarationView
+pub mod EnumView
+pub mod ReadAs
+pub mod TermView

@@ -1,5 +1,0 @@
-use Rattle.smt_jobs.proofs.FormsRead.{AreNew}
-use Rattle.smt_jobs.proofs.form.refuse_doubles.Given as goal
-
-abbrev pub invariant-loop-place : goal.invariant-loop-place
-invariant-loop-place l = AreNew l.names l.place

@@ -1,6 +1,0 @@
-use Rattle.std.proofs.Common.{drop}
-use Rattle.smt_jobs.proofs.PatternsRead.{ReadingParts}
-use Rattle.smt_jobs.proofs.pattern.elements_from.Given as goal
-
-abbrev pub invariant-loop-item : goal.invariant-loop-item
-invariant-loop-item l = ReadingParts l.elems.items (drop l.item-index l.items) l.items

@@ -1,8 +1,0 @@
-use Rattle.smt_types.proofs.AscendingTexts.{members_ascend, text_sets_ascend}
-use Rattle.smt_types.proofs.laws.program_texts.Goals as goal
-
-pub returns : goal.returns
-returns c = record {
-  sets = text_sets_ascend;
-  members = members_ascend;
-}

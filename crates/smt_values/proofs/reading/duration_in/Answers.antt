@@ -1,0 +1,8 @@
+use Rattle.smt_values.proofs.ReadTexts.{duration_read, no_duration}
+use Rattle.smt_values.proofs.reading.duration_in.Goals as goal
+
+pub returns-in-Ok : goal.returns-in-Ok
+returns-in-Ok c = duration_read c.args.text.now c.in-Ok.span.milliseconds c.in-Ok.ensures.value
+
+pub returns : goal.returns
+returns c = no_duration c.args.text.now c.in-Err.ensures.accepts
