@@ -1,53 +1,37 @@
 //! `smtcli`: the script of a job, a solver's verdict on it, or why there is none.
 #![tactic(auto)]
 
-use smt_cli::{ReadSource, Refusal, run};
-use smt_script::{BufferedSink, Sink, WriteSink};
+use smt_cli::{Refusal, run};
+use smt_program::{begin, end_with};
 use smt_solve::ChildStarter;
-use smt_words::{WordsError, command_words, put_installed};
-use std::io::BufWriter;
 use std::process::ExitCode;
-
-/// How many bytes of standard output are held back at most, to be written at once.
-const PIECE: usize = 65_536;
 
 /// What `--version` says first of the installed program, as tools/install writes it here.
 const INSTALLED: &str = "";
 
-/// Says why there is no run, and how the program ends.
-fn refused<D: Sink>(diag: &mut D, refusal: Refusal) -> ExitCode {
-    // A line that is not put changes no status.
-    let _ = diag.put(refusal.line().as_bytes());
-    ExitCode::from(refusal.status())
-}
-
 fn main(rt: HostRuntime) -> ExitCode {
-    let alloc = rt.alloc();
-    let mut diag = WriteSink::new(rt.stderr());
-    let words = match command_words(&rt) {
-        Ok(words) => words,
-        Err(WordsError::NotText) => return refused(&mut diag, Refusal::Usage),
-        Err(WordsError::Memory) => return refused(&mut diag, Refusal::Memory),
-    };
-    let mut source = ReadSource::new(rt.stdin());
-    let Ok(stdout) = BufWriter::with_capacity(alloc, PIECE, rt.stdout()) else {
-        return refused(&mut diag, Refusal::Memory);
-    };
-    // The run flushes it at its end.
-    let mut out = BufferedSink::new(stdout);
-    if put_installed(words.as_slice(), INSTALLED, &mut out).is_err() {
-        return refused(&mut diag, Refusal::Sink);
-    }
-    let Ok(processes) = rt.clone() else {
-        return refused(&mut diag, Refusal::Memory);
-    };
-    let mut starter = ChildStarter::new(processes);
-    ExitCode::from(run(
-        alloc,
-        words.as_slice(),
-        &mut source,
-        &mut out,
-        &mut diag,
-        &mut starter,
-    ))
+    let usage = Refusal::Usage.line();
+    let begun = begin(&rt, usage, INSTALLED, rt.stdin(), rt.stdout(), rt.stderr());
+    ExitCode::from(match begun {
+        Ok(mut on) => match rt.clone() {
+            Ok(processes) => {
+                let words = on.words.as_slice();
+                let mut starter = ChildStarter::new(processes);
+                run(
+                    rt.alloc(),
+                    words,
+                    &mut on.source,
+                    &mut on.out,
+                    &mut on.diag,
+                    &mut starter,
+                )
+            }
+            Err(_) => end_with(
+                &mut on.diag,
+                Refusal::Memory.line(),
+                Refusal::Memory.status(),
+            ),
+        },
+        Err(status) => status,
+    })
 }

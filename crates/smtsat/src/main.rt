@@ -1,10 +1,10 @@
 //! `smtsat`: whether a formula in conjunctive normal form has a solution, by a search or by a proof.
 #![tactic(auto)]
 
+use smt_program::{WordsError, command_words, put_installed};
 use smt_sat_run::{Refusal, proof_file, sat_run};
 use smt_script::{BufferedSink, ReadSource, Sink, WriteSink};
 use smt_text::Text;
-use smt_words::{WordsError, command_words, put_installed};
 use std::fs::File;
 use std::io::{self, BufWriter, Read};
 use std::process::ExitCode;

@@ -1,5 +1,6 @@
--- What the words of a command line are.
-use Rattle.std.specs.Prelude.{◌≡◌, ◌∷◌, [], Err, List, Ok, Result, codes, drop, map, ℕ}
+-- What the words of a command line are, and what they ask for.
+use Rattle.std.specs.Prelude.{◌≡◌, ◌∷◌, [], if◌then◌else◌, bytes_eq, codes, drop, map, option_map, ℕ}
+use Rattle.std.specs.Prelude.{Err, List, Ok, Option, Some, Result}
 use Rattle.std.specs.String.{string_bytes}
 use Rattle.std.specs.Iterator.{Drains}
 use Rattle.std.specs.Vec.Iter.{into_iter_steps}
@@ -12,8 +13,10 @@ use Rattle.std.specs.declared.vec.IntoIter.{IntoIter}
 use Rattle.std.specs.declared.vec.Vec.{Vec}
 use Rattle.std.specs.IoError.{error_kind}
 use Rattle.law_texts.specs.SharedTexts.{texts}
-use Rattle.smt_words.specs.declared.WordsError.{WordsError}
-use Rattle.smt_words.specs.declared.WordsError.TheVariants.{NotText, Memory}
+use Rattle.smt_program.specs.declared.words.Asked.{Asked}
+use Rattle.smt_program.specs.declared.words.Asked.TheVariants.{Own, Help, Version}
+use Rattle.smt_program.specs.declared.words.WordsError.{WordsError}
+use Rattle.smt_program.specs.declared.words.WordsError.TheVariants.{NotText, Memory}
 
 -- the arguments are these
 abbrev pub AreArguments : IntoIter (String Global) Global → List (String Global) → Type 0
@@ -37,3 +40,10 @@ IsAnswered result = (arguments : Result (IntoIter (String Global) Global) Error)
 -- the words ask for the version
 abbrev pub AskVersion : List (List ℕ) → Type 0
 AskVersion words = words ≡ codes "--version" ∷ []
+
+-- what words ask for, where they name `own` to the program; None where they are no command
+abbrev pub asked : {C : Type 0} → (own : Option C) → (words : List (List ℕ)) → Option (Asked C)
+asked own (w ∷ []) =
+    if bytes_eq w (codes "--help") then Some Help
+    else (if bytes_eq w (codes "--version") then Some Version else option_map Own own)
+asked own words = option_map Own own

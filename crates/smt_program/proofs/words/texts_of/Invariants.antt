@@ -2,7 +2,7 @@
 use Rattle.std.proofs.Common.{◌≡◌, map}
 use Rattle.std.specs.String.{string_bytes}
 use Rattle.law_texts.specs.SharedTexts.{texts}
-use Rattle.smt_words.proofs.texts_of.Given as goal
+use Rattle.smt_program.proofs.words.texts_of.Given as goal
 
 -- each argument so far is a text
 abbrev pub invariant-loop-argument : goal.invariant-loop-argument

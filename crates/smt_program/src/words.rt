@@ -1,14 +1,13 @@
-//! The words of a command line.
-#![tactic(auto)]
-
-ghost use Rattle.std.specs.Prelude.{◌≡◌, IfOk, List, Ok, map};
+// The words of a command line.
+ghost use Rattle.std.specs.Prelude.{◌≡◌, ◌∷◌, [], IfOk, List, Ok, map, option_map};
 ghost use Rattle.std.specs.String.{string_bytes};
 ghost use Rattle.std.specs.declared.alloc.Global.{Global};
 ghost use Rattle.std.specs.declared.string.String.{String};
 ghost use Rattle.law_texts.specs.SharedTexts.{texts};
 ghost use Rattle.std.specs.Rc.{rc_str_bytes};
 ghost use Rattle.smt_script.specs.Sink.{Puts};
-ghost use Rattle.smt_words.specs.Words.{AreArguments, AskVersion, IsAnswered, Reads};
+ghost use Rattle.smt_program.specs.declared.words.Asked.TheVariants.{Own};
+ghost use Rattle.smt_program.specs.Words.{AreArguments, AskVersion, IsAnswered, Reads, asked};
 
 use smt_script::{Sink, SinkError};
 use smt_text::Text;
@@ -26,6 +25,17 @@ pub enum WordsError {
     /// There was no memory for the words.
     #[error("no memory for the words of the command line")]
     Memory,
+}
+
+/// What the words of a command line ask for.
+#[derive(Clone, Copy, Debug, PartialEq, Eq, Drop)]
+pub enum Asked<C> {
+    /// What the program does by them.
+    Own(C),
+    /// `--help`.
+    Help,
+    /// `--version`.
+    Version,
 }
 
 /// These arguments as texts.
@@ -91,5 +101,36 @@ pub fn put_installed<W: Sink>(words: &[Text], line: &str, out: &mut W) -> Result
             _ => Ok(()),
         },
         _ => Ok(()),
+    }
+}
+
+/// What is asked for by words that are no texts of the program's own.
+fn named<C: Copy>(own: Option<C>) -> Option<Asked<C>>
+    ensures { result ≡ option_map Own own }
+{
+    match own {
+        Some(command) => Some(Asked::Own(command)),
+        None => None,
+    }
+}
+
+/// What one word asks for, where it names `own` to the program.
+fn asked_by<C: Copy>(word: &Text, own: Option<C>) -> Option<Asked<C>>
+    ensures { result ≡ asked own (rc_str_bytes word.now ∷ []) }
+{
+    match word.as_str() {
+        "--help" => Some(Asked::Help),
+        "--version" => Some(Asked::Version),
+        _ => named(own),
+    }
+}
+
+/// What the words ask for, where they name `own` to the program. None where they are no command.
+pub fn asked_of<C: Copy>(words: &[Text], own: Option<C>) -> Option<Asked<C>>
+    ensures { result ≡ asked own (texts words.now) }
+{
+    match words {
+        [word] => asked_by(word, own),
+        _ => named(own),
     }
 }
