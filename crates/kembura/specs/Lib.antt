@@ -72,9 +72,9 @@ pub use Rattle.law_folding.specs.Parts as FoldingParts
 pub use Rattle.law_folding.specs.RecordOf
 pub use Rattle.law_folding.specs.Refinement
 pub use Rattle.law_folding.specs.SetOf
-pub use Rattle.law_job_scripts.specs.Asked
-pub use Rattle.law_job_scripts.specs.JobTexts
-pub use Rattle.law_job_scripts.specs.Meaning as JobScriptsMeaning
+pub use Rattle.smt_runs.specs.Asked
+pub use Rattle.smt_runs.specs.JobTexts
+pub use Rattle.smt_runs.specs.Meaning as JobScriptsMeaning
 pub use Rattle.law_jobs.specs.Declarations
 pub use Rattle.law_jobs.specs.Enums as JobsEnums
 pub use Rattle.law_jobs.specs.Jobs
@@ -203,11 +203,11 @@ pub use Rattle.smt_bits.specs.Printed as BitsPrinted
 pub use Rattle.smt_bits.specs.Width
 pub use Rattle.smt_blast.specs.Answers as BlastAnswers
 pub use Rattle.smt_blast.specs.View as BlastView
-pub use Rattle.smt_blast_run.specs.Causes as BlastCauses
-pub use Rattle.smt_blast_run.specs.Meaning as BlastMeaning
-pub use Rattle.smt_blast_run.specs.Refusal as BlastRefusal
-pub use Rattle.smt_blast_run.specs.Run as BlastRun
-pub use Rattle.smt_blast_run.specs.Words as BlastWords
+pub use Rattle.smt_blast.specs.Causes as BlastCauses
+pub use Rattle.smt_blast.specs.Meaning as BlastMeaning
+pub use Rattle.smt_blast.specs.Refused as BlastRefused
+pub use Rattle.smt_blast.specs.Run as BlastRun
+pub use Rattle.smt_blast.specs.Words as BlastWords
 pub use Rattle.smt_clauses.specs.Assumed
 pub use Rattle.smt_clauses.specs.Loops
 pub use Rattle.smt_clauses.specs.Marked
@@ -218,7 +218,6 @@ pub use Rattle.smt_clauses.specs.Variables
 pub use Rattle.smt_clauses.specs.View as ClausesView
 pub use Rattle.smt_cli.specs.Causes
 pub use Rattle.smt_cli.specs.Generated
-pub use Rattle.smt_cli.specs.Refusal
 pub use Rattle.smt_cli.specs.Rows as CliRows
 pub use Rattle.smt_cli.specs.Run
 pub use Rattle.smt_cli.specs.SmallVerdicts
@@ -242,11 +241,11 @@ pub use Rattle.smt_eval.specs.InputRefused
 pub use Rattle.smt_eval.specs.FirstPlaces as AssignmentPlaces
 pub use Rattle.smt_eval.specs.ReaderView
 pub use Rattle.smt_eval.specs.WrittenView
-pub use Rattle.smt_eval_run.specs.Answers as EvalAnswers
-pub use Rattle.smt_eval_run.specs.Causes as EvalCauses
-pub use Rattle.smt_eval_run.specs.Refusal as EvalRefusal
-pub use Rattle.smt_eval_run.specs.Run as EvalRun
-pub use Rattle.smt_eval_run.specs.Words as EvalWords
+pub use Rattle.smt_eval.specs.Answers as EvalAnswers
+pub use Rattle.smt_eval.specs.Causes as EvalCauses
+pub use Rattle.smt_eval.specs.Refused as EvalRefused
+pub use Rattle.smt_eval.specs.Run as EvalRun
+pub use Rattle.smt_eval.specs.Words as EvalWords
 pub use Rattle.smt_ext.specs.DatetimeReading
 pub use Rattle.smt_ext.specs.DatetimeRefusal
 pub use Rattle.smt_ext.specs.DatetimeText
@@ -300,14 +299,17 @@ pub use Rattle.smt_pool.specs.Errors as PoolErrors
 pub use Rattle.smt_pool.specs.Pool
 pub use Rattle.smt_pool.specs.Pooled
 pub use Rattle.smt_pool.specs.Sessions
+pub use Rattle.smt_program.specs.Ends as ProgramEnds
+pub use Rattle.smt_program.specs.Words as ProgramWords
+pub use Rattle.smt_review.specs.Causes as ReviewCauses
 pub use Rattle.smt_review.specs.Differences
 pub use Rattle.smt_review.specs.Errors as ReviewErrors
 pub use Rattle.smt_review.specs.Once as ReviewOnce
 pub use Rattle.smt_review.specs.Pairs as ReviewPairs
-pub use Rattle.smt_review.specs.Refusal as ReviewRefusal
+pub use Rattle.smt_review.specs.Refused as ReviewRefused
 pub use Rattle.smt_review.specs.Reviews
 pub use Rattle.smt_review.specs.Rows as ReviewRows
-pub use Rattle.smt_review.specs.Runs as ReviewRuns
+pub use Rattle.smt_review.specs.Run as ReviewRun
 pub use Rattle.smt_review.specs.Sessions as ReviewSessions
 pub use Rattle.smt_review.specs.SmallFindings
 pub use Rattle.smt_review.specs.Words as ReviewWords

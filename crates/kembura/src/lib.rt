@@ -11,6 +11,7 @@
 //! | `mini`, `stream` | a small solver; the run of `smtmini`, and links to small solvers in memory |
 //! | `jobs`, `runs`, `program` | the reader of jobs, and operators at numbered nodes; scripts and checks of a job's steps; the run of
 //! `smtcli` |
+//! | `processes` | the words and the streams of a process, and how a run ends |
 //! | `blast`, `blast_run` | terms over bitvectors as Boolean terms over their bits; the run of `smtblast` |
 //! | `eval`, `eval_run` | what terms are worth in an assignment that is given; the run of `smteval` |
 //! | `clauses`, `search`, `dimacs` | clauses and a checker of proofs, a search for truths that make them true, their texts |
@@ -27,7 +28,7 @@ pub mod laws;
 pub use smt_bits as bits;
 pub use smt_bits::{BitVec, Width};
 pub use smt_blast as blast;
-pub use smt_blast_run::blast_run;
+pub use smt_blast::blast_run;
 pub use smt_clauses as clauses;
 pub use smt_clauses::{ClauseList, Proof, refutes};
 pub use smt_cli as program;
@@ -36,8 +37,7 @@ pub use smt_dimacs as dimacs;
 pub use smt_encode as encode;
 pub use smt_encode::{EncodeError, Encoder};
 pub use smt_eval as eval;
-pub use smt_eval::{Assignment, EvalError, EvalInput, read_eval};
-pub use smt_eval_run::eval_run;
+pub use smt_eval::{Assignment, EvalError, EvalInput, eval_run, read_eval};
 pub use smt_ext as extensions;
 pub use smt_ext::{Datetime, Decimal, Duration, Ext, IPNet};
 pub use smt_factory as factory;
@@ -47,6 +47,7 @@ pub use smt_mini as mini;
 pub use smt_nodes as nodes;
 pub use smt_pool as pool;
 pub use smt_pool::{SolverPool, check_script};
+pub use smt_program as processes;
 pub use smt_review as review;
 pub use smt_review::{Finding, Relation, ReviewError, review_run};
 pub use smt_runs as runs;

@@ -1,11 +1,17 @@
 pub mod Adding
+pub mod BlastedJobs
 pub mod Choosing
 pub mod Comparing
 pub mod Entries
 pub mod Gating
 pub mod Listing
+pub mod Meaning
 pub mod Nodes
 pub mod Operating
+pub mod Running
 pub mod Standing
+pub mod Statuses
 pub mod Tabling
+pub mod Taking
 pub mod Visiting
+pub mod Written

@@ -1,9 +1,15 @@
 pub mod Answers
+pub mod Causes
 pub mod Chains
 pub mod CircuitView
+pub mod Current
 pub mod Marks
+pub mod Meaning
+pub mod Refused
+pub mod Run
 pub mod Sorts
 pub mod Standing
 pub mod Tables
 pub mod View
 pub mod Walks
+pub mod Words

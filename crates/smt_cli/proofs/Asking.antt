@@ -9,7 +9,7 @@ use Rattle.law_folding.specs.Built.{built}
 use Rattle.law_jobs.specs.Jobs.{IsBuiltFrom, PlainJob, built_job, fault_of}
 use Rattle.law_jobs.specs.Steps.{PlainStep, AreBalanced, CheckStep, Section, TermsSection, StepsSection, asserted, built_step, built_steps, checked_steps}
 use Rattle.law_jobs.proofs.Steps.{asserted_built}
-use Rattle.law_job_scripts.proofs.Meaning.{balanced_with_check, with_check}
+use Rattle.smt_runs.proofs.Meaning.{balanced_with_check, with_check}
 use Rattle.smt_nodes.specs.declared.interner.Interner.{Interner}
 use Rattle.smt_jobs.specs.Numbers.{all_steps_stand, steps_by}
 use Rattle.smt_jobs.specs.declared.numbered.NumberedStep.{NumberedStep}

@@ -5,18 +5,18 @@ use Rattle.law_terms.specs.TypeValues.{Enums}
 use Rattle.law_theorem.specs.Fits.{new_stages}
 use Rattle.law_jobs.specs.Jobs.{IsBuiltFrom, IsJob, PlainJob, fault_of}
 use Rattle.law_jobs.specs.Steps.{PlainStep, Section, built_steps, checked_steps}
-use Rattle.law_job_scripts.proofs.Asking.{asked_text}
-use Rattle.law_job_scripts.proofs.Believing.{answers_are_believed}
-use Rattle.law_job_scripts.proofs.Meaning.{jobs_are_writable}
+use Rattle.smt_runs.proofs.Asking.{asked_text}
+use Rattle.smt_runs.proofs.Believing.{answers_are_believed}
+use Rattle.smt_runs.proofs.Meaning.{jobs_are_writable}
 use Rattle.smt_solve.specs.Link.{LinkState}
-use Rattle.smt_solve.specs.Starter.{Command as SolverCall}
+use Rattle.smt_solve.specs.Starter.{Command as SolverCall, StarterState}
 use Rattle.smt_runs.specs.Asking.{AsksSolver}
-use Rattle.smt_cli.specs.Causes.{Around}
+use Rattle.smt_runs.specs.Runs.{Around}
 use Rattle.smt_cli.specs.Run.{Checks, steps_to_check}
 use Rattle.smt_cli.proofs.Asking.{faultless_job, of_steps}
 
-module _ {L : Type 0} (state : L → LinkState) (allows : List ℕ → List ℕ → List ℕ → Type 0) (call : SolverCall) (before after : Around L) where
-  of_job : (bytes : List ℕ) (job : PlainJob) (is : IsJob bytes job) → AsksSolver state allows before.starter after.starter call job.enums (built_steps (steps_to_check bytes job is)) before.held after.held → Checks state allows call before after bytes
+module _ {L : Type 0} (state : L → LinkState) (allows : List ℕ → List ℕ → List ℕ → Type 0) (call : SolverCall) (before after : Around (StarterState L)) where
+  of_job : (bytes : List ℕ) (job : PlainJob) (is : IsJob bytes job) → AsksSolver state allows before.beside after.beside call job.enums (built_steps (steps_to_check bytes job is)) before.held after.held → Checks state allows call before after bytes
   of_job bytes job is asks =
       let all = asks.returns.of_link in
       let steps = steps_to_check bytes job is in
@@ -32,7 +32,7 @@ module _ {L : Type 0} (state : L → LinkState) (allows : List ℕ → List ℕ 
 
   -- What was read whole is a job by whose steps a solver was asked.
   pub checked : (left : Option (List ℕ)) (section : Section) (job : PlainJob) → IfSome left (λ bytes. IsBuiltFrom bytes section job)
-      → AsksSolver state allows before.starter after.starter call job.enums (checked_steps section job.steps) before.held after.held → IfSome left (Checks state allows call before after)
+      → AsksSolver state allows before.beside after.beside call job.enums (checked_steps section job.steps) before.held after.held → IfSome left (Checks state allows call before after)
   checked None section job is asks = tt
   checked (Some bytes) section job is asks =
-      of_job bytes is.written is.is_job (of_steps bytes section job is (λ (enums : Enums) (steps : List PlainStep). AsksSolver state allows before.starter after.starter call enums steps before.held after.held) asks)
+      of_job bytes is.written is.is_job (of_steps bytes section job is (λ (enums : Enums) (steps : List PlainStep). AsksSolver state allows before.beside after.beside call enums steps before.held after.held) asks)

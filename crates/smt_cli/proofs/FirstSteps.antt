@@ -8,8 +8,8 @@ use Rattle.law_jobs.specs.Jobs.{PlainJob, fault_of}
 use Rattle.law_jobs.specs.Steps.{PlainStep, AssertStep, CheckStep, PopStep, PushStep, Section, TermsSection, StepsSection, asserted, built_steps, checked_steps}
 use Rattle.law_jobs.proofs.Steps.{asserted_built}
 use Rattle.law_verdicts.specs.Dialogues.{AnsweredCheck}
-use Rattle.law_job_scripts.proofs.Behind.{asserted_before}
-use Rattle.law_job_scripts.proofs.Writing.{first_none}
+use Rattle.smt_runs.proofs.Behind.{asserted_before}
+use Rattle.smt_runs.proofs.Writing.{first_none}
 use Rattle.smt_runs.specs.Asking.{AskedSoFar}
 use Rattle.smt_runs.specs.Pieces.{StopsAt}
 use Rattle.smt_cli.specs.Causes.{before_check}

@@ -2,7 +2,6 @@ pub mod Asking
 pub mod Believing
 pub mod Conditions
 pub mod FirstSteps
-pub mod Flushing
 pub mod Running
 pub mod Statuses
 pub mod Stopped

@@ -11,29 +11,27 @@ use Rattle.law_terms.specs.Plain.{PlainTerm}
 use Rattle.law_jobs.specs.Jobs.{IsBuiltFrom, PlainJob, fault_of}
 use Rattle.law_jobs.specs.Steps.{Section, asserted}
 use Rattle.law_jobs.proofs.Steps.{asserted_built}
-use Rattle.law_job_scripts.specs.JobTexts.{text_of_job}
-use Rattle.law_job_scripts.proofs.Meaning.{jobs_are_writable, writable_steps_mean}
+use Rattle.smt_runs.specs.JobTexts.{text_of_job}
+use Rattle.smt_runs.proofs.Meaning.{jobs_are_writable, writable_steps_mean}
 use Rattle.law_texts.proofs.SameTexts.{other_text}
-use Rattle.smt_runs.specs.Jobs.{HasFaultOf, HasPrintCause, IsAJob, IsFaultOf}
+use Rattle.smt_runs.specs.Jobs.{HasFaultOf, HasPrintCause, HasReadCause, IsAJob, IsFaultOf}
 use Rattle.smt_runs.specs.Pieces.{PutsSteps}
 use Rattle.smt_runs.specs.declared.refusal.EncodeRefusal.{EncodeRefusal}
-use Rattle.smt_runs.specs.declared.refusal.PrintRefusal.{PrintRefusal}
-use Rattle.smt_runs.specs.declared.refusal.PrintRefusal.TheVariants.{Encode as PrintEncode, Sink as PrintSink, Memory as PrintWant}
-use Rattle.smt_cli.specs.Causes.{Around, HasScriptCause, SinkFailed}
-use Rattle.smt_cli.specs.Refusal.{print_refusal}
+use Rattle.smt_runs.specs.declared.refusal.Refusal.{Refusal}
+use Rattle.smt_runs.specs.declared.refusal.Refusal.TheVariants.{Job, Encode, Source, Sink, Memory}
+use Rattle.smt_cli.specs.Causes.{WhyNotPrinted}
 use Rattle.smt_cli.specs.Run.{Prints}
 use Rattle.smt_cli.specs.Words.{commanded, generate_by, generation_named}
 use Rattle.smt_cli.specs.declared.command.Command.{Command}
 use Rattle.smt_cli.proofs.Asking.{faultless_read}
 
 -- a word that is no command
-pub unasked : (words : List (RcStr Global)) (word : RcStr Global) (w : List ℕ) → 1 ≤ length words → length words < 2 → word ≡ get_or words 0 word → w ≡ rc_str_bytes word
-    → (w ≡ codes "script" → ⊥) → (w ≡ codes "--help" → ⊥) → (w ≡ codes "--version" → ⊥) → None ≡ commanded (texts words)
-unasked (x ∷ []) word w l m p q a b d =
+pub unasked : (words : List (RcStr Global)) (word : RcStr Global) (w : List ℕ) → 1 ≤ length words → length words < 2 → word ≡ get_or words 0 word → w ≡ rc_str_bytes word → (w ≡ codes "script" → ⊥) → None ≡ commanded (texts words)
+unasked (x ∷ []) word w l m p q a =
     let e : rc_str_bytes x ≡ w = sym (q ∙ ap (λ (t : RcStr Global). rc_str_bytes t) p) in
-    rw (e, other_text w (codes "script") a, other_text w (codes "--help") b, other_text w (codes "--version") d) refl
-unasked [] word w l m p q a b d = absurd (omega (arith, l))
-unasked (x ∷ y ∷ words) word w l m p q a b d = absurd (omega (arith, m))
+    rw (e, other_text w (codes "script") a) refl
+unasked [] word w l m p q a = absurd (omega (arith, l))
+unasked (x ∷ y ∷ words) word w l m p q a = absurd (omega (arith, m))
 
 -- words that begin with another than `check`
 pub unchecked : (words : List (RcStr Global)) (word : RcStr Global) (w : List ℕ) (asked : Option Command) → 2 ≤ length words → word ≡ get_or words 0 word → w ≡ rc_str_bytes word → (w ≡ codes "check" → ⊥)
@@ -73,9 +71,16 @@ some_job : (left : Option (List ℕ)) (section : Section) (job : PlainJob) → I
 some_job None section job is = tt
 some_job (Some bytes) section job is = (is.written, is.is_job)
 
--- the refusal of a script has its cause
-pub script_cause : {L : Type 0} (before after : Around L) (section : Section) (job : PlainJob) (why : PrintRefusal) → IfSome before.left (λ bytes. IsBuiltFrom bytes section job) → HasPrintCause (first_fault job.enums (asserted job.steps)) (SinkFailed before after) why
-    → HasScriptCause before after (print_refusal why)
-script_cause before after section job (PrintEncode kind) is h = fault_in before.left section job kind is h
-script_cause before after section job PrintSink is h = (h, some_job before.left section job is)
-script_cause before after section job PrintWant is h = tt
+-- why a job's script was not put
+pub unprinted_known : (left old new : Option (List ℕ)) (failed : Type 0) (section : Section) (job : PlainJob) (r : Refusal) → IfSome left (λ bytes. IsBuiltFrom bytes section job) → HasPrintCause (first_fault job.enums (asserted job.steps)) failed r → WhyNotPrinted left old new r
+unprinted_known left old new failed section job (Encode kind) is h = fault_in left section job kind is h
+unprinted_known left old new failed section job Sink is h = some_job left section job is
+unprinted_known left old new failed section job Memory is h = tt
+unprinted_known left old new failed section job r is h = absurd h
+
+-- why no script was put of what is no job
+pub unread_known : (left old new : Option (List ℕ)) (failed : Type 0) (r : Refusal) → new ≡ old → HasReadCause left failed r → WhyNotPrinted left old new r
+unread_known left old new failed (Job kind) same h = (h, same)
+unread_known left old new failed Source same h = same
+unread_known left old new failed Memory same h = tt
+unread_known left old new failed r same h = absurd h

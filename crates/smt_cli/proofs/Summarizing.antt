@@ -19,7 +19,7 @@ use Rattle.smt_script.specs.declared.count.CountSink.{CountSink}
 use Rattle.law_lines.specs.Line.{spelled_lines}
 use Rattle.law_lines.specs.Lines.{EncodeCall, fresh, lines_of_call}
 use Rattle.law_jobs.specs.Steps.{AssertStep}
-use Rattle.law_job_scripts.specs.JobTexts.{names_of_job, text_of_job}
+use Rattle.smt_runs.specs.JobTexts.{names_of_job, text_of_job}
 use Rattle.smt_spelling.specs.NodeTexts.{HasName}
 use Rattle.smt_encode.specs.declared.error.EncodeError.{EncodeError}
 use Rattle.smt_encode.specs.declared.error.EncodeError.TheVariants.{Memory}

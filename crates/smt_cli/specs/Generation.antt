@@ -6,7 +6,7 @@ use Rattle.law_terms.specs.Plain.{PlainType, VariableTerm}
 use Rattle.law_lines.specs.NameTables.{Tables, name_of_term}
 use Rattle.law_jobs.specs.Jobs.{PlainJob}
 use Rattle.law_jobs.specs.Steps.{asserted}
-use Rattle.law_job_scripts.specs.JobTexts.{names_of_job, text_of_job}
+use Rattle.smt_runs.specs.JobTexts.{names_of_job, text_of_job}
 use Rattle.smt_cli.specs.Jobs.{job_generated}
 use Rattle.smt_cli.specs.declared.summary.Summary.{Summary}
 

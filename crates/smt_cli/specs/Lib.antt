@@ -2,7 +2,6 @@ pub mod Causes
 pub mod Generated
 pub mod Generation
 pub mod Jobs
-pub mod Refusal
 pub mod Rows
 pub mod Run
 pub mod SmallVerdicts

@@ -13,7 +13,7 @@ ghost use Rattle.smt_runs.specs.Asking.{AsksSolver, WhyNotAsked};
 
 use smt_encode::Steps;
 use smt_jobs::{NumberedJob, NumberedStep, NumberedSteps, Section};
-use smt_runs::{CheckRefusal, check_steps};
+use smt_runs::{Refusal, check_steps};
 use smt_script::Sink;
 use smt_solve::{SolverCommand, Starter};
 use std::alloc::{AllocError, Global};
@@ -45,7 +45,7 @@ fn ask_job<L: Ledger, W: Sink, P: Starter>(
     out: &mut W,
     starter: &mut P,
     blank: Blank,
-) -> Result<(), CheckRefusal>
+) -> Result<(), Refusal>
     requires name { blank.name ≡ L.name }
     requires parts { blank.parts ≡ L.parts }
     requires some { 0 < blank.parts }
@@ -69,7 +69,7 @@ fn ask_job<L: Ledger, W: Sink, P: Starter>(
     } = job;
     let NumberedSteps { nodes, steps, .. } = steps;
     let Ok(steps) = with_check(steps, section) else {
-        return Err(CheckRefusal::Memory);
+        return Err(Refusal::Memory);
     };
     let mut look_ups = Steps::<L>::new(blank);
     check_steps(
@@ -91,7 +91,7 @@ pub(crate) fn put_verdicts<W: Sink, P: Starter>(
     solver: &SolverCommand,
     out: &mut W,
     starter: &mut P,
-) -> Result<(), CheckRefusal>
+) -> Result<(), Refusal>
     requires balanced { AreBalanced 0 (numbered_steps job.steps) }
     ensures asked { OnOk result (AsksSolver P.L.state (P.allows starter.old) (P.state starter.old)
         (P.state starter.new) (command_of solver.now) (enums_of job.enums)

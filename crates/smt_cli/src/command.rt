@@ -1,4 +1,4 @@
-// What the words of a command line ask for.
+// What the program does by its words, and what it says of itself.
 ghost use Rattle.std.specs.Prelude.{◌≡◌, IfOk, IsOkUnless, Some};
 ghost use Rattle.std.specs.Rc.{rc_str_bytes};
 ghost use Rattle.law_texts.specs.SharedTexts.{texts};
@@ -6,10 +6,18 @@ ghost use Rattle.smt_solve.specs.Starter.{command_of as solver_call};
 ghost use Rattle.smt_cli.specs.Words.{commanded, count_within, generate_by, generation_in};
 ghost use Rattle.smt_cli.specs.Words.{generation_named, number_named, solver_named};
 
+use smt_runs::Texts;
 use smt_solve::{SolverCommand, SolverError};
 use smt_term::Text;
 use smt_text::digits;
 use std::alloc::Global;
+
+/// What the program says of itself.
+pub(crate) const TEXTS: Texts = Texts {
+    help: HELP,
+    version: VERSION,
+    usage: USAGE,
+};
 
 /// What `smtcli --help` prints.
 pub(crate) const HELP: &str = "\
@@ -42,7 +50,10 @@ status: 0 done, 2 no such command, 3 job refused, 4 no script for a term, 5 sour
 /// What `smtcli --version` prints.
 pub(crate) const VERSION: &str = "smtcli 0.1.0 (rattle-kit-13f logic dac8208d650f15bf)\n";
 
-/// What the words of a command line ask for.
+/// The line that is said of words that are no command.
+pub const USAGE: &str = "usage: smtcli script or check PATH ARGS.. or gen SEED N\n";
+
+/// What the program does by its words.
 #[derive(Clone, Copy, Debug, PartialEq, Eq, Drop)]
 pub enum Command {
     /// `script`: the script of a job.
@@ -51,10 +62,6 @@ pub enum Command {
     Check,
     /// `gen SEED N`: the summary of a generated job.
     Generate,
-    /// `--help`.
-    Help,
-    /// `--version`.
-    Version,
 }
 
 /// The greatest number of terms that a generated job may have.
@@ -115,15 +122,13 @@ fn generate_of(words: &[Text]) -> Option<Command>
     }
 }
 
-/// What the words ask for, None where they are no command.
+/// What the words name, None where they are no command of the program's own.
 pub(crate) fn command_of(words: &[Text]) -> Option<Command>
     ensures { result ≡ commanded (texts words.now) }
 {
     match words {
         [word] => match word.as_str() {
             "script" => Some(Command::Script),
-            "--help" => Some(Command::Help),
-            "--version" => Some(Command::Version),
             _ => None,
         },
         [word, _, ..] => match word.as_str() {

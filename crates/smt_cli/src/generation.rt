@@ -1,6 +1,6 @@
 // What the scripts of generated jobs have.
-ghost use Rattle.std.specs.Prelude.{[], ◌≡◌, ◌<◌, ◌≤◌, IfErr, IfOk, IsOkUnless, None, OnOk};
-ghost use Rattle.std.specs.Prelude.{is_some};
+ghost use Rattle.std.specs.Prelude.{[], ◌≡◌, ◌<◌, ◌≤◌, IfErr, IfOk, IsErrOf, IsOkUnless, None};
+ghost use Rattle.std.specs.Prelude.{OnOk, is_some};
 ghost use Rattle.std.specs.Io.KnownBytes.{append_known};
 ghost use Rattle.law_terms.specs.Faults.{first_fault};
 ghost use Rattle.smt_term.specs.View.{plain_term};
@@ -11,16 +11,16 @@ ghost use Rattle.smt_job_terms.specs.DeclarationView.{declarations, plain_declar
 ghost use Rattle.smt_jobs.specs.Numbered.{terms_begun};
 ghost use Rattle.smt_encode.specs.Encoded.{sink_of, HasNames};
 ghost use Rattle.smt_cli.specs.Jobs.{job_generated, job_of_terms};
-ghost use Rattle.smt_cli.specs.Causes.{HasPutCause};
+ghost use Rattle.smt_runs.specs.Runs.{IsPutRefusal};
 ghost use Rattle.smt_cli.specs.Generation as generation;
 ghost use Rattle.smt_cli.specs.Generation.{declared_among, summary_by, summary_of, summary_text};
 
 use crate::generate::{GeneratedJob, generated_job};
-use crate::refusal::Refusal;
 use crate::summary::Summary;
 use smt_encode::{EncodeError, Encoder, Steps};
 use smt_job_terms::VarList;
 use smt_jobs::NumberedSteps;
+use smt_runs::Refusal;
 use smt_script::{CountSink, Sink};
 use smt_term::{EnumTable, Term, TermError, TermVar};
 use std::alloc::Global;
@@ -137,7 +137,8 @@ pub(crate) fn put_summary<W: Sink>(
 ) -> Result<(), Refusal>
     ensures done { OnOk result
         (W.contents out.new ≡ append_known (W.contents out.old) (summary_text seed count)) }
-    ensures refused { IfErr result (HasPutCause (Rose (W.faults out.old) (W.faults out.new))) }
+    ensures known { IfErr result IsPutRefusal }
+    ensures failed { IsErrOf result Refusal.Sink → Rose (W.faults out.old) (W.faults out.new) }
     ensures later { W.faults out.old ≤ W.faults out.new }
 {
     let Ok(summary) = generated_summary(alloc, seed, count) else {

@@ -11,7 +11,7 @@ ghost use Rattle.smt_runs.specs.Pieces.{PutsSteps};
 
 use smt_encode::{EncodeError, Steps};
 use smt_jobs::{NumberedJob, NumberedSteps};
-use smt_runs::{PrintRefusal, put_steps};
+use smt_runs::{Refusal, put_steps};
 use smt_script::Sink;
 use std::alloc::Global;
 use std::marker::Brand;
@@ -46,7 +46,7 @@ pub(crate) fn put_script<W: Sink>(
     alloc: Global,
     job: NumberedJob,
     out: &mut W,
-) -> Result<(), PrintRefusal>
+) -> Result<(), Refusal>
     requires balanced { AreBalanced 0 (numbered_steps job.steps) }
     ensures puts { OnOk result (PutsSteps (enums_of job.enums) (W.contents out.old)
         (W.contents out.new) (numbered_steps job.steps)) }
@@ -57,6 +57,6 @@ pub(crate) fn put_script<W: Sink>(
 {
     match encode_job::<Brand, W>(alloc, job, out, Blank::new(1)) {
         Ok(()) => Ok(()),
-        Err(error) => Err(PrintRefusal::of(error)),
+        Err(error) => Err(Refusal::of(error)),
     }
 }

@@ -1,23 +1,39 @@
 // The run of the program, from its words to its status.
-ghost use Rattle.std.specs.Prelude.{◌≡◌, ◌≢◌, ◌↔◌, ◌≤◌, None, Some, IfErr, OnOk};
+ghost use Rattle.std.specs.Prelude.{◌≡◌, ◌↔◌, ◌≤◌, false, None, Some, IfErr, OnOk};
 ghost use Rattle.law_texts.specs.SharedTexts.{texts};
+ghost use Rattle.smt_program.specs.Ends.{SaysLine};
+ghost use Rattle.smt_script.specs.Sink.{Rose};
 ghost use Rattle.smt_solve.specs.Link.{AllowsTheSame};
-ghost use Rattle.smt_cli.specs.Causes.{HasCause, HasCheckCause, LeavesOutput, around};
-ghost use Rattle.smt_cli.specs.Refusal.{line_of, status_of};
-ghost use Rattle.smt_cli.specs.Run.{IsComplete, IsDone};
-ghost use Rattle.smt_runs.specs.Runs.{Reports};
-ghost use Rattle.smt_cli.specs.Words.{commanded, generation_named, solver_named};
+ghost use Rattle.smt_runs.specs.Runs.{Does, Fails, HasCause, Knows, Reads, Reports, around};
+ghost use Rattle.smt_runs.specs.Runs.{StartFailed, does_own, requested};
+ghost use Rattle.smt_cli.specs.Causes.{WhyNotChecked, WhyNotDone, WhyNotPrinted};
+ghost use Rattle.smt_cli.specs.Run.{Checks, IsComplete, IsDone, Prints};
+ghost use Rattle.smt_cli.specs.Words.{asks_solver, commanded, generation_named, reads_job};
+ghost use Rattle.smt_cli.specs.Words.{solver_named, usage_line};
 
 use crate::checking::put_verdicts;
-use crate::command::{Command, HELP, VERSION, command_of, seed_and_count, solver_of};
+use crate::command::{Command, TEXTS, command_of, seed_and_count, solver_of};
 use crate::generation::put_summary;
 use crate::printing::put_script;
-use crate::refusal::Refusal;
-use smt_runs::read_source;
+use smt_runs::{Refusal, Task, Texts, read_source, run_task};
 use smt_script::{Sink, Source};
 use smt_solve::Starter;
 use smt_term::Text;
 use std::alloc::Global;
+
+/// Reads a job, and puts its script.
+fn print<R: Source, W: Sink>(alloc: Global, source: &mut R, out: &mut W) -> Result<(), Refusal>
+    ensures done { OnOk result (Reads (Prints (W.contents out.old) (W.contents out.new))
+        (R.remaining source.old) (R.remaining source.new)) }
+    ensures failed { IfErr result (Fails (Rose (R.faults source.old) (R.faults source.new))
+        (Rose (W.faults out.old) (W.faults out.new))) }
+    ensures known { IfErr result
+        (WhyNotPrinted (R.remaining source.old) (W.contents out.old) (W.contents out.new)) }
+    ensures later { W.faults out.old ≤ W.faults out.new }
+{
+    let job = read_source(alloc, source)?;
+    put_script(alloc, job, out)
+}
 
 /// Reads a job, asks a solver by its steps, and puts the verdicts.
 fn check<R: Source, W: Sink, P: Starter>(
@@ -28,16 +44,17 @@ fn check<R: Source, W: Sink, P: Starter>(
     starter: &mut P,
 ) -> Result<(), Refusal>
     requires { commanded (texts words.now) ≡ Some Command.Check }
-    ensures done { OnOk result (IsDone P.L.state (P.allows starter.old)
+    ensures done { OnOk result (Reads (Checks P.L.state (P.allows starter.old)
         (solver_named (texts words.now))
-        (around R.remaining R.faults W.contents W.faults P.state source.old out.old starter.old)
-        (around R.remaining R.faults W.contents W.faults P.state source.new out.new starter.new)
-        (generation_named (texts words.now)) (Some Command.Check)) }
-    ensures refused { IfErr result (HasCheckCause P.L.state (P.allows starter.old)
+        (around R.remaining W.contents source.old out.old (P.state starter.old))
+        (around R.remaining W.contents source.new out.new (P.state starter.new)))
+        (R.remaining source.old) (R.remaining source.new)) }
+    ensures failed { IfErr result (Fails (Rose (R.faults source.old) (R.faults source.new))
+        (Rose (W.faults out.old) (W.faults out.new))) }
+    ensures known { IfErr result (WhyNotChecked P.L.state (P.allows starter.old)
         (solver_named (texts words.now))
-        (around R.remaining R.faults W.contents W.faults P.state source.old out.old starter.old)
-        (around R.remaining R.faults W.contents W.faults P.state source.new out.new starter.new)) }
-    ensures untouched { IfErr result (LeavesOutput (W.contents out.old) (W.contents out.new)) }
+        (around R.remaining W.contents source.old out.old (P.state starter.old))
+        (around R.remaining W.contents source.new out.new (P.state starter.new))) }
     ensures later { W.faults out.old ≤ W.faults out.new }
     ensures allows { AllowsTheSame (P.allows starter.old) (P.allows starter.new) }
 {
@@ -45,79 +62,59 @@ fn check<R: Source, W: Sink, P: Starter>(
     let Ok(solver) = solver_of(alloc, words) else {
         return Err(Refusal::Memory);
     };
-    Ok(put_verdicts(alloc, job, &solver, out, starter)?)
+    put_verdicts(alloc, job, &solver, out, starter)
 }
 
-/// Puts what the words ask for.
-fn put_answer<R: Source, W: Sink, P: Starter>(
-    alloc: Global,
-    words: &[Text],
-    source: &mut R,
-    out: &mut W,
-    starter: &mut P,
-) -> Result<(), Refusal>
-    ensures done { OnOk result (IsDone P.L.state (P.allows starter.old)
-        (solver_named (texts words.now))
-        (around R.remaining R.faults W.contents W.faults P.state source.old out.old starter.old)
-        (around R.remaining R.faults W.contents W.faults P.state source.new out.new starter.new)
-        (generation_named (texts words.now)) (commanded (texts words.now))) }
-    ensures refused { IfErr result (HasCause P.L.state (P.allows starter.old)
-        (commanded (texts words.now)) (solver_named (texts words.now))
-        (around R.remaining R.faults W.contents W.faults P.state source.old out.old starter.old)
-        (around R.remaining R.faults W.contents W.faults P.state source.new out.new starter.new)) }
-    ensures untouched { IfErr result (LeavesOutput (W.contents out.old) (W.contents out.new)) }
-    ensures unread { commanded (texts words.now) ≢ Some Command.Script →
-        commanded (texts words.now) ≢ Some Command.Check → source.new ≡ source.old }
-    ensures unstarted { commanded (texts words.now) ≢ Some Command.Check →
-        starter.new ≡ starter.old }
-    ensures later { W.faults out.old ≤ W.faults out.new }
-    ensures allows { AllowsTheSame (P.allows starter.old) (P.allows starter.new) }
-{
-    match command_of(words) {
-        Some(Command::Script) => {
-            let job = read_source(alloc, source)?;
-            put_script(alloc, job, out)?;
-        }
-        Some(Command::Check) => check(alloc, words, source, out, starter)?,
-        Some(Command::Generate) => {
-            let (seed, count) = seed_and_count(words);
-            put_summary(alloc, seed, count, out)?;
-        }
-        Some(Command::Help) => out.put(HELP.as_bytes())?,
-        Some(Command::Version) => out.put(VERSION.as_bytes())?,
-        None => return Err(Refusal::Usage),
+impl<R: Source, P: Starter> Task<R, P> for Command {
+    ghost use Rattle.smt_solve.specs.Link.{AllowsTheSame};
+    ghost use Rattle.smt_runs.specs.Runs.{seen};
+    ghost use Rattle.smt_cli.specs.Causes.{WhyNotDone};
+    ghost use Rattle.smt_cli.specs.Run.{IsDone};
+    ghost use Rattle.smt_cli.specs.Words.{asks_solver, commanded, generation_named, reads_job};
+    ghost use Rattle.smt_cli.specs.Words.{solver_named, usage_line};
+
+    ghost named = { commanded };
+
+    ghost usage = { usage_line };
+
+    ghost reads = { reads_job };
+
+    ghost uses = { asks_solver };
+
+    ghost keeps = { λ before after. AllowsTheSame (P.allows before) (P.allows after) };
+
+    ghost does = { λ command words before after. IsDone P.L.state (P.allows before.beside)
+        (solver_named words) (seen P.state before) (seen P.state after) (generation_named words)
+        command };
+
+    ghost knows = { λ command words before after. WhyNotDone P.L.state (P.allows before.beside)
+        (solver_named words) (seen P.state before) (seen P.state after) command };
+
+    fn named_by(words: &[Text]) -> Option<Command> {
+        command_of(words)
     }
-    Ok(())
-}
 
-/// Does what the words ask for: puts it, and flushes `out`, also where not all of it was put.
-fn answer<R: Source, W: Sink, P: Starter>(
-    alloc: Global,
-    words: &[Text],
-    source: &mut R,
-    out: &mut W,
-    starter: &mut P,
-) -> Result<(), Refusal>
-    ensures done { OnOk result (IsDone P.L.state (P.allows starter.old)
-        (solver_named (texts words.now))
-        (around R.remaining R.faults W.contents W.faults P.state source.old out.old starter.old)
-        (around R.remaining R.faults W.contents W.faults P.state source.new out.new starter.new)
-        (generation_named (texts words.now)) (commanded (texts words.now))) }
-    ensures refused { IfErr result (HasCause P.L.state (P.allows starter.old)
-        (commanded (texts words.now)) (solver_named (texts words.now))
-        (around R.remaining R.faults W.contents W.faults P.state source.old out.old starter.old)
-        (around R.remaining R.faults W.contents W.faults P.state source.new out.new starter.new)) }
-    ensures untouched { IfErr result (LeavesOutput (W.contents out.old) (W.contents out.new)) }
-    ensures unread { commanded (texts words.now) ≢ Some Command.Script →
-        commanded (texts words.now) ≢ Some Command.Check → source.new ≡ source.old }
-    ensures unstarted { commanded (texts words.now) ≢ Some Command.Check →
-        starter.new ≡ starter.old }
-    ensures allows { AllowsTheSame (P.allows starter.old) (P.allows starter.new) }
-{
-    let outcome = put_answer(alloc, words, source, out, starter);
-    let flushed = out.flush();
-    outcome?;
-    Ok(flushed?)
+    fn texts() -> Texts {
+        TEXTS
+    }
+
+    fn perform<W: Sink>(
+        self,
+        alloc: Global,
+        words: &[Text],
+        source: &mut R,
+        beside: &mut P,
+        out: &mut W,
+    ) -> Result<(), Refusal> {
+        match self {
+            Command::Script => print(alloc, source, out),
+            Command::Check => check(alloc, words, source, out, beside),
+            Command::Generate => {
+                let (seed, count) = seed_and_count(words);
+                put_summary(alloc, seed, count, out)
+            }
+        }
+    }
 }
 
 /// Runs the program over these words, and answers the status with which it ends.
@@ -175,35 +172,37 @@ pub fn run<R: Source, W: Sink, D: Sink, P: Starter>(
     diag: &mut D,
     starter: &mut P,
 ) -> u8
-    ensures done { result ≡ 0 →
-        IsDone P.L.state (P.allows starter.old) (solver_named (texts words.now))
-        (around R.remaining R.faults W.contents W.faults P.state source.old out.old starter.old)
-        (around R.remaining R.faults W.contents W.faults P.state source.new out.new starter.new)
-        (generation_named (texts words.now)) (commanded (texts words.now)) }
-    ensures usage { result ≡ 2 ↔ (commanded (texts words.now) ≡ None) }
-    ensures complete { IsComplete (commanded (texts words.now))
-        (around R.remaining R.faults W.contents W.faults P.state source.old out.old starter.old)
-        (around R.remaining R.faults W.contents W.faults P.state source.new out.new starter.new)
-        result }
-    ensures unread { commanded (texts words.now) ≢ Some Command.Script →
-        commanded (texts words.now) ≢ Some Command.Check → source.new ≡ source.old }
-    ensures unstarted { commanded (texts words.now) ≢ Some Command.Check →
+    ensures done { result ≡ 0 → Does
+        (around R.remaining W.contents source.old out.old (P.state starter.old))
+        (around R.remaining W.contents source.new out.new (P.state starter.new))
+        (λ command before after. IsDone P.L.state (P.allows starter.old)
+        (solver_named (texts words.now)) before after (generation_named (texts words.now)) command)
+        (requested commanded (texts words.now)) }
+    ensures usage { result ≡ 2 ↔ (requested commanded (texts words.now) ≡ None) }
+    ensures complete { IsComplete (requested commanded (texts words.now)) (R.remaining source.old)
+        (Rose (R.faults source.old) (R.faults source.new))
+        (Rose (W.faults out.old) (W.faults out.new))
+        (StartFailed (P.state starter.old) (P.state starter.new)) result }
+    ensures unread { does_own reads_job (requested commanded (texts words.now)) ≡ false →
+        source.new ≡ source.old }
+    ensures unstarted { does_own asks_solver (requested commanded (texts words.now)) ≡ false →
         starter.new ≡ starter.old }
-    ensures report { Reports status_of line_of
-        (HasCause P.L.state (P.allows starter.old) (commanded (texts words.now))
-        (solver_named (texts words.now))
-        (around R.remaining R.faults W.contents W.faults P.state source.old out.old starter.old)
-        (around R.remaining R.faults W.contents W.faults P.state source.new out.new starter.new))
-        (LeavesOutput (W.contents out.old) (W.contents out.new)) D.contents D.faults D.has_room
-        D.place diag.old diag.new result }
+    ensures report { Reports (requested commanded (texts words.now)) usage_line
+        (out.new ≡ out.old) (diag.new ≡ diag.old)
+        (SaysLine D.contents D.faults D.has_room D.place diag.old diag.new)
+        (HasCause (Rose (R.faults source.old) (R.faults source.new))
+        (Rose (W.faults out.old) (W.faults out.new))
+        (Knows (around R.remaining W.contents source.old out.old (P.state starter.old))
+        (around R.remaining W.contents source.new out.new (P.state starter.new))
+        (λ command before after. WhyNotDone P.L.state (P.allows starter.old)
+        (solver_named (texts words.now)) before after command)
+        (requested commanded (texts words.now)))
+        (Does (around R.remaining W.contents source.old out.old (P.state starter.old))
+        (around R.remaining W.contents source.new out.new (P.state starter.new))
+        (λ command before after. IsDone P.L.state (P.allows starter.old)
+        (solver_named (texts words.now)) before after (generation_named (texts words.now)) command)
+        (requested commanded (texts words.now)))) result }
     ensures allows { AllowsTheSame (P.allows starter.old) (P.allows starter.new) }
 {
-    match answer(alloc, words, source, out, starter) {
-        Ok(()) => 0,
-        Err(refusal) => {
-            // A diagnosis that is not put changes no status.
-            let _ = diag.put(refusal.line().as_bytes());
-            refusal.status()
-        }
-    }
+    run_task::<Command, R, P, W, D>(alloc, words, source, starter, out, diag)
 }

@@ -4,9 +4,14 @@ pub mod Entries
 pub mod FirstPlaces
 pub mod InputReading
 pub mod InputWhole
+pub mod Inputs
+pub mod Meaning
 pub mod Parts
 pub mod ReadValues
 pub mod ReadWhole
 pub mod Refused
+pub mod Running
+pub mod Statuses
+pub mod Truths
 pub mod Valued
 pub mod WrittenShapes

@@ -1,6 +1,11 @@
+pub mod Answers
 pub mod AssignmentView
+pub mod Causes
 pub mod Evaluable
-pub mod InputRefused
 pub mod FirstPlaces
+pub mod InputRefused
 pub mod ReaderView
+pub mod Refused
+pub mod Run
+pub mod Words
 pub mod WrittenView

@@ -26,16 +26,17 @@ use Rattle.smt_pool.proofs.Asking.{counted_back}
 use Rattle.smt_pool.specs.Checks.{Returns}
 use Rattle.smt_pool.specs.declared.check_error.SessionFault.{SessionFault}
 use Rattle.smt_pool.specs.declared.check_error.SessionFault.TheVariants.{Io, Solver as SaysError, UnrecognizedSolverOutput, AnswerTooLong}
+use Rattle.smt_runs.specs.Runs.{Fails}
+use Rattle.smt_runs.specs.declared.refusal.Refusal.{Refusal}
+use Rattle.smt_runs.specs.declared.refusal.Refusal.TheVariants.{Encode as NoScript, Start, Session, Memory as Want}
 use Rattle.smt_review.specs.Differences.{AreRelated}
 use Rattle.smt_review.specs.Once.{AnswersOnce, FailsReview, IsResetAfter, IsReviewedBy, ReviewsOnce, WhyNotReviewedOnce}
-use Rattle.smt_review.specs.Refusal.{review_refusal, session_kind}
+use Rattle.smt_review.specs.Refused.{review_refusal, session_kind}
 use Rattle.smt_review.specs.Reviews.{IsAskable, WhyNothingFound, WhyFailed, decision_for, difference_of, text_for}
 use Rattle.smt_review.specs.declared.error.ReviewError.{ReviewError}
 use Rattle.smt_review.specs.declared.error.ReviewError.TheVariants.{Encode, Pool, Solver, Memory}
 use Rattle.smt_review.specs.declared.finding.Finding.{Finding}
 use Rattle.smt_review.specs.declared.finding.Finding.TheVariants.{Holds}
-use Rattle.smt_review.specs.declared.refusal.Refusal.{Refusal}
-use Rattle.smt_review.specs.declared.refusal.Refusal.TheVariants.{Session}
 use Rattle.smt_review.specs.declared.relation.Relation.{Relation}
 use Rattle.smt_review.proofs.Telling.{differences_tell}
 
@@ -105,6 +106,14 @@ module _ {L T : Type 0} (state : L → LinkState) (old between new : StarterStat
   pub not_reviewed : {U : Type 0} (result : Result U Refusal) (e : ReviewError) → IsErrAnd result (λ y. y ≡ review_refusal e) → WhyNothingFound enums r t u e (state began) (state link) → IfErr result (WhyNotReviewedOnce state old new call enums r t u)
   not_reviewed (Ok y) e is why = tt
   not_reviewed (Err y) e is why = subst (λ (z : Refusal). WhyNotReviewedOnce state old new call enums r t u z) (sym is) (why_not e why)
+
+-- what failed of the source and the sink: nothing
+pub once_failed : {L : Type 0} (state : L → LinkState) (old new : StarterState L) (call : SolverCall) (enums : Enums) (r : Relation) (t u : PlainTerm) (source_failed sink_failed : Type 0) (why : Refusal) → WhyNotReviewedOnce state old new call enums r t u why → Fails source_failed sink_failed why
+once_failed state old new call enums r t u source_failed sink_failed (NoScript kind) h = tt
+once_failed state old new call enums r t u source_failed sink_failed Start h = tt
+once_failed state old new call enums r t u source_failed sink_failed (Session kind) h = tt
+once_failed state old new call enums r t u source_failed sink_failed Want h = tt
+once_failed state old new call enums r t u source_failed sink_failed why h = absurd h
 
 -- ---- belief
 

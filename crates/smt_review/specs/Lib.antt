@@ -1,11 +1,12 @@
+pub mod Causes
 pub mod Differences
 pub mod Errors
 pub mod Once
 pub mod Pairs
-pub mod Refusal
+pub mod Refused
 pub mod Reviews
 pub mod Rows
-pub mod Runs
+pub mod Run
 pub mod Sessions
 pub mod SmallFindings
 pub mod Words

@@ -15,11 +15,11 @@ use Rattle.law_verdicts.specs.Verdicts.{logic_text}
 use Rattle.smt_pool.specs.Checks.{Returns}
 use Rattle.smt_pool.specs.declared.check_error.SessionFault.{SessionFault}
 use Rattle.smt_runs.specs.Jobs.{IsFaultOf}
-use Rattle.smt_review.specs.Refusal.{session_kind}
+use Rattle.smt_runs.specs.declared.refusal.Refusal.{Refusal}
+use Rattle.smt_runs.specs.declared.refusal.Refusal.TheVariants.{Encode, Start, Session, Memory}
+use Rattle.smt_review.specs.Refused.{session_kind}
 use Rattle.smt_review.specs.Reviews.{IsAskable, WhyFailed, decision_for, difference_of, text_for}
 use Rattle.smt_review.specs.declared.finding.Finding.{Finding}
-use Rattle.smt_review.specs.declared.refusal.Refusal.{Refusal}
-use Rattle.smt_review.specs.declared.refusal.Refusal.TheVariants.{Usage, Job, NotTwo, Encode, Source, Sink, Start, Session, Memory}
 use Rattle.smt_review.specs.declared.relation.Relation.{Relation}
 
 -- Behind its answer a link was sent `(reset)` (SMT-LIB 2.7, chapter 4), or it failed over that. The solver was not killed.
@@ -34,9 +34,8 @@ pub record AnswersOnce (allows : List ℕ → List ℕ → List ℕ → Type 0) 
   pub reset : IsResetAfter asked now
 
 module _ {L : Type 0} (state : L → LinkState) (enums : Enums) (relation : Relation) (t u : PlainTerm) where
-  -- A link was started, which allows only what its starter did. It was sent `(set-logic ALL)`, the text of the difference, `(check-sat)`
-  -- and
-  -- `(reset)`, and answered by the one line that says this finding.
+  -- A link was started, which allows only what its starter did. It was sent `(set-logic ALL)`, the text of the difference,
+  -- `(check-sat)` and `(reset)`, and answered by the one line that says this finding.
   pub record IsReviewedBy (allows : L → List ℕ → List ℕ → List ℕ → Type 0) (allowed : List ℕ → List ℕ → List ℕ → Type 0) (finding : Finding)
       (link : L) : Type 0 where
     pub began : L
@@ -69,18 +68,13 @@ ReviewsOnce state allows allowed old new call enums relation t u finding =
     Returns (IsReviewedBy state enums relation t u allows allowed finding) old new call
 
 -- Why nothing was found: the difference has a first fault of this kind, the solver did not start, its session failed, or there was no
--- memory.
--- Where a solver was started its link came back.
+-- memory. Where a solver was started its link came back.
 abbrev pub WhyNotReviewedOnce : {L : Type 0} → (L → LinkState) → (old new : StarterState L) → SolverCall → Enums → Relation →
     (t u : PlainTerm) → Refusal → Type 0
-WhyNotReviewedOnce state old new call enums relation t u Usage = ⊥
-WhyNotReviewedOnce state old new call enums relation t u (Job kind) = ⊥
-WhyNotReviewedOnce state old new call enums relation t u NotTwo = ⊥
 WhyNotReviewedOnce state old new call enums relation t u (Encode kind) =
     IsFaultOf kind (first_fault enums (difference_of relation t u ∷ [])) × Returns (IsNotAskedBy state enums relation t u) old new call
-WhyNotReviewedOnce state old new call enums relation t u Source = ⊥
-WhyNotReviewedOnce state old new call enums relation t u Sink = ⊥
 WhyNotReviewedOnce state old new call enums relation t u Start = Rose old.failed_starts new.failed_starts
 WhyNotReviewedOnce state old new call enums relation t u (Session kind) =
     Returns (FailsReview state enums relation t u (Rose old.link_faults new.link_faults) kind) old new call
 WhyNotReviewedOnce state old new call enums relation t u Memory = ⊤
+WhyNotReviewedOnce state old new call enums relation t u refusal = ⊥

@@ -1,15 +1,23 @@
-// What the words of a command line ask for.
-ghost use Rattle.std.specs.Prelude.{◌≡◌, true, IfOk, IsOkUnless};
+// What the program does by its words, and what it says of itself.
+ghost use Rattle.std.specs.Prelude.{◌≡◌, true, is_some, option_map, IfOk, IsOkUnless};
 ghost use Rattle.std.specs.Rc.{rc_str_bytes};
 ghost use Rattle.law_texts.specs.SharedTexts.{texts};
 ghost use Rattle.smt_solve.specs.Starter.{command_of as solver_call};
-ghost use Rattle.smt_review.specs.Words.{commanded, is_review, relation_named, review_by};
-ghost use Rattle.smt_review.specs.Words.{solver_named, word_asks};
+ghost use Rattle.smt_review.specs.Words.{commanded, relation_named, solver_named};
+ghost use Rattle.smt_review.specs.declared.command.Command.TheVariants.{Review};
 
 use crate::relation::Relation;
+use smt_runs::Texts;
 use smt_solve::{SolverCommand, SolverError};
 use smt_text::Text;
 use std::alloc::Global;
+
+/// What the program says of itself.
+pub(crate) const TEXTS: Texts = Texts {
+    help: HELP,
+    version: VERSION,
+    usage: USAGE,
+};
 
 /// What `smtreview --help` prints.
 pub(crate) const HELP: &str = "\
@@ -38,26 +46,14 @@ status: 0 done, 2 no such command, 3 job refused, 4 no script for the difference
 /// What `smtreview --version` prints.
 pub(crate) const VERSION: &str = "smtreview 0.1.0 (rattle-kit-13f logic dac8208d650f15bf)\n";
 
-/// What the words of a command line ask for.
+/// The line that is said of words that are no command.
+pub const USAGE: &str = "usage: smtreview equivalent or implies or disjoint PATH ARGS..\n";
+
+/// What the program does by its words.
 #[derive(Clone, Copy, Debug, PartialEq, Eq, Drop)]
 pub enum Command {
     /// `equivalent PATH ARGS..`, `implies PATH ARGS..` or `disjoint PATH ARGS..`: whether the relation holds of the job's two terms.
     Review(Relation),
-    /// `--help`.
-    Help,
-    /// `--version`.
-    Version,
-}
-
-/// What one word asks for, None where it is no command.
-fn word_command(word: &Text) -> Option<Command>
-    ensures { result ≡ word_asks (rc_str_bytes word.now) }
-{
-    match word.as_str() {
-        "--help" => Some(Command::Help),
-        "--version" => Some(Command::Version),
-        _ => None,
-    }
 }
 
 /// The relation of this name.
@@ -74,7 +70,7 @@ fn relation_of(word: &Text) -> Option<Relation>
 
 /// The review by a relation that was named.
 fn review_of(relation: Option<Relation>) -> Option<Command>
-    ensures { result ≡ review_by relation }
+    ensures { result ≡ option_map Review relation }
 {
     match relation {
         Some(relation) => Some(Command::Review(relation)),
@@ -82,20 +78,20 @@ fn review_of(relation: Option<Relation>) -> Option<Command>
     }
 }
 
-/// What the words ask for, None where they are no command.
+/// What the words name, None where they are no command.
 pub(crate) fn command_of(words: &[Text]) -> Option<Command>
     ensures { result ≡ commanded (texts words.now) }
 {
     match words {
         [] => None,
-        [word] => word_command(word),
+        [_] => None,
         [word, _, ..] => review_of(relation_of(word)),
     }
 }
 
 /// The solver that stands behind the first word, with its arguments.
 pub(crate) fn solver_of(alloc: Global, words: &[Text]) -> Result<SolverCommand, SolverError>
-    requires { is_review (commanded (texts words.now)) ≡ true }
+    requires { is_some (commanded (texts words.now)) ≡ true }
     ensures named { IfOk result (λ solver. solver_call solver ≡ solver_named (texts words.now)) }
     ensures refusal { IsOkUnless result SolverError.Memory }
 {

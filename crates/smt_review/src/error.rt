@@ -1,8 +1,10 @@
-// Why a review makes no finding.
+// Why a review makes no finding, and which refusal of a run that becomes.
 ghost use Rattle.std.specs.Prelude.{◌≡◌};
+ghost use Rattle.smt_review.specs.Refused.{encode_kind, session_kind};
 
 use smt_encode::EncodeError;
-use smt_pool::SolverPoolError;
+use smt_pool::{SessionFault, SolverPoolError};
+use smt_runs::{EncodeRefusal, Refusal};
 use smt_solve::SolverError;
 use smt_term::TermError;
 use thiserror::Error;
@@ -75,6 +77,52 @@ impl From<SolverError> for ReviewError {
         match error {
             SolverError::Memory => ReviewError::Memory,
             error => ReviewError::Solver(error),
+        }
+    }
+}
+
+/// What an error of the encoder becomes. A difference of typed terms, a new encoder and a sink in memory give the first four alone.
+fn unwritten(error: EncodeError) -> Refusal
+    ensures { result ≡ encode_kind error }
+{
+    match error {
+        EncodeError::EnumMissingMember(_) => Refusal::Encode(EncodeRefusal::EnumMissingMember),
+        EncodeError::EncodeStringFailed(_) => Refusal::Encode(EncodeRefusal::EncodeStringFailed),
+        EncodeError::EncodePatternFailed(_) => {
+            Refusal::Encode(EncodeRefusal::EncodePatternFailed)
+        }
+        EncodeError::EmptyEnum(_) => Refusal::Encode(EncodeRefusal::EmptyEnum),
+        _ => Refusal::Memory,
+    }
+}
+
+/// What an error of a session becomes. One that had not failed before gives no `SolverMarkedFailed`.
+fn unanswered(error: SolverError) -> Refusal
+    ensures { result ≡ session_kind error }
+{
+    match error {
+        SolverError::Io => Refusal::Session(SessionFault::Io),
+        SolverError::Solver(_) => Refusal::Session(SessionFault::Solver),
+        SolverError::UnrecognizedSolverOutput(_) => {
+            Refusal::Session(SessionFault::UnrecognizedSolverOutput)
+        }
+        SolverError::AnswerTooLong => Refusal::Session(SessionFault::AnswerTooLong),
+        SolverError::Memory | SolverError::SolverMarkedFailed => Refusal::Memory,
+    }
+}
+
+impl From<ReviewError> for Refusal {
+    ghost use Rattle.std.specs.Prelude.{◌≡◌};
+    ghost use Rattle.smt_review.specs.Refused.{review_refusal};
+
+    ghost from_gives = { λ why refusal. refusal ≡ review_refusal why };
+
+    fn from(why: ReviewError) -> Refusal {
+        match why {
+            ReviewError::Encode(error) => unwritten(error),
+            ReviewError::Pool(_) => Refusal::Start,
+            ReviewError::Solver(error) => unanswered(error),
+            ReviewError::Memory => Refusal::Memory,
         }
     }
 }

@@ -3,9 +3,9 @@
 //!
 //! Read `specs/Differences.antt` first, which says what each relation is and what no interpretation of the difference means. What a
 //! review finds, and why it finds nothing, is defined in `specs/Reviews.antt`, and what a caller keeps of a pool from one review to
-//! the next in `specs/Sessions.antt`. What a run of the program does, why it is refused and what it says stands in `specs/Runs.antt`,
-//! over `specs/Pairs.antt`, which says what a job of two terms is, and `specs/Once.antt`, which says what a solver shows that is started
-//! for one review.
+//! the next in `specs/Sessions.antt`. What a run of the program does and why it is refused stands in `specs/Run.antt` and `Causes`, over
+//! `specs/Pairs.antt`, which says what a job of two terms is, and `specs/Once.antt`, which says what a solver shows that is started for
+//! one review. `specs/Words.antt` has the commands, and `smt_runs` the statuses and what is said with them.
 #![tactic(auto, using(smt_term::specs::View::views))]
 
 mod ask;
@@ -15,17 +15,16 @@ mod error;
 mod finding;
 pub mod laws;
 mod pair;
+mod program;
 mod question;
-mod refusal;
 mod relation;
 mod reviews;
-mod run;
 
-pub use command::Command;
+pub use command::{Command, USAGE};
 pub use differences::difference;
 pub use error::ReviewError;
 pub use finding::Finding;
-pub use refusal::Refusal;
+pub use program::review_run;
 pub use relation::Relation;
 pub use reviews::review;
-pub use run::review_run;
+pub use smt_runs::Refusal;

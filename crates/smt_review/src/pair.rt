@@ -11,13 +11,13 @@ ghost use Rattle.smt_runs.specs.Jobs.{HasReadCause};
 ghost use Rattle.smt_review.specs.Pairs.{pair_of};
 
 use smt_jobs::{GREATEST_JOB, Job, Step, StepList, read_job};
-use smt_runs::ReadRefusal;
+use smt_runs::Refusal;
 use smt_script::{Source, read_input};
 use smt_term::Term;
 use std::alloc::Global;
 
 /// Reads the source to its end, and the job that it gave, with its terms.
-pub(crate) fn read_whole<R: Source>(alloc: Global, source: &mut R) -> Result<Job, ReadRefusal>
+pub(crate) fn read_whole<R: Source>(alloc: Global, source: &mut R) -> Result<Job, Refusal>
     ensures job { IfOk result (λ job.
         IfSome (R.remaining source.old)
         (λ bytes. (section : StatedSection) × IsBuiltFrom bytes section (plain_job job))) }

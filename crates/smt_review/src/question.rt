@@ -14,8 +14,8 @@ ghost use Rattle.smt_review.specs.Once.{AnswersOnce, IsResetAfter, ReviewsOnce, 
 use crate::ask::script_of;
 use crate::error::ReviewError;
 use crate::finding::Finding;
-use crate::refusal::Refusal;
 use crate::relation::Relation;
+use smt_runs::Refusal;
 use smt_solve::{Link, LocalSolver, Solver, SolverCommand, SolverError, Starter};
 use smt_term::{EnumTable, Term};
 use std::alloc::Global;

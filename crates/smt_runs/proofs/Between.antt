@@ -10,8 +10,8 @@ use Rattle.law_terms.specs.TypeValues.{Enums}
 use Rattle.law_lines.specs.Lines.{fresh}
 use Rattle.law_theorem.specs.Fits.{Stages, encoding_of, new_stages}
 use Rattle.law_jobs.specs.Steps.{PlainStep, AreBalanced, AssertStep, CheckStep, PopStep, PushStep, asserted}
-use Rattle.law_job_scripts.specs.JobTexts.{stages_behind, text_behind, text_of_job}
-use Rattle.law_job_scripts.proofs.Behind.{balanced_behind, fault_within, faultless_joined, stages_then, text_then}
+use Rattle.smt_runs.specs.JobTexts.{stages_behind, text_behind, text_of_job}
+use Rattle.smt_runs.proofs.Behind.{balanced_behind, fault_within, faultless_joined, stages_then, text_then}
 use Rattle.smt_script.specs.CommandTexts.{check_sat_text}
 use Rattle.smt_encode.specs.Encoded.{enums_in, is_spent, nodes_in, HasEncoding}
 use Rattle.smt_encode.specs.Refusals.{HasCause}

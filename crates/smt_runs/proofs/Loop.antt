@@ -9,8 +9,8 @@ use Rattle.law_terms.specs.Faults.{Fault, first_fault}
 use Rattle.law_terms.specs.TypeValues.{Enums}
 use Rattle.law_theorem.specs.Fits.{Stages, encoding_of}
 use Rattle.law_jobs.specs.Steps.{PlainStep, AreBalanced, asserted}
-use Rattle.law_job_scripts.specs.JobTexts.{checks_in, stages_behind, stages_of_step, text_behind, text_of_step}
-use Rattle.law_job_scripts.proofs.Behind.{balanced_before, balanced_behind, checks_before, fault_within, faultless_joined, stages_alone, stages_then, text_alone, text_then}
+use Rattle.smt_runs.specs.JobTexts.{checks_in, stages_behind, stages_of_step, text_behind, text_of_step}
+use Rattle.smt_runs.proofs.Behind.{balanced_before, balanced_behind, checks_before, fault_within, faultless_joined, stages_alone, stages_then, text_alone, text_then}
 use Rattle.smt_encode.specs.Encoded.{enums_in, is_spent, nodes_in, sink_of, HasEncoding, Keeps}
 use Rattle.smt_encode.specs.Refusals.{HasCause}
 use Rattle.smt_encode.specs.declared.encoder.Encoder.{Encoder}

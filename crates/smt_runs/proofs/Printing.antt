@@ -11,8 +11,9 @@ use Rattle.smt_encode.specs.declared.error.EncodeError.{EncodeError}
 use Rattle.smt_encode.specs.declared.error.EncodeError.TheVariants.{Io as SinkFails, Memory as EncodeWant, NoScope as NoLevel, Spent as IsSpent, EmptyEnum as EnumRefused, EncodeStringFailed as StringRefused, EncodePatternFailed as PatternRefused, EnumMissingMember as EntityRefused, ExpectRecord as NoRecordRefused, MalformedRecordGet as NoOperandRefused, MissingTypeEncoding as TypeRefused, RecordMissingAttr as AttributeRefused, BitVecError as BitsRefused}
 use Rattle.smt_runs.specs.Jobs.{HasPrintCause}
 use Rattle.smt_runs.specs.Refusal.{refusal_of}
-use Rattle.smt_runs.specs.declared.refusal.PrintRefusal.{PrintRefusal}
-use Rattle.smt_runs.specs.declared.refusal.PrintRefusal.TheVariants.{Encode as PrintEncode, Sink as PrintSink, Memory as PrintWant}
+use Rattle.smt_runs.specs.Runs.{Fails}
+use Rattle.smt_runs.specs.declared.refusal.Refusal.{Refusal}
+use Rattle.smt_runs.specs.declared.refusal.Refusal.TheVariants.{Encode, Sink, Memory}
 
 -- The refusal of a script has its cause, where the encoder's error has.
 pub print_cause : {T : Type 0} (before after : ℕ) (fault : Option Fault) (e : EncodeError) → HasCause {T = T} before after fault (Err e) → HasPrintCause fault (Rose before after) (refusal_of e)
@@ -31,12 +32,20 @@ print_cause before after fault NoLevel h = tt
 print_cause before after fault (BitsRefused why) h = tt
 
 -- a script in memory is refused for want of memory or a fault alone
-pub memory_cause : {T : Type 0} (before after : ℕ) (fault : Option Fault) (r : Result T EncodeError) (e : EncodeError) (refusal : PrintRefusal) → before ≡ 0 → after ≡ 0 → r ≡ Err e → refusal ≡ refusal_of e → HasCause before after fault r → HasPrintCause fault ⊥ refusal
+pub memory_cause : {T : Type 0} (before after : ℕ) (fault : Option Fault) (r : Result T EncodeError) (e : EncodeError) (refusal : Refusal) → before ≡ 0 → after ≡ 0 → r ≡ Err e → refusal ≡ refusal_of e → HasCause before after fault r → HasPrintCause fault ⊥ refusal
 memory_cause {T} before after fault r e refusal first last is same h =
-    subst (λ (p : PrintRefusal). HasPrintCause fault ⊥ p) (sym same)
+    subst (λ (p : Refusal). HasPrintCause fault ⊥ p) (sym same)
     (no_sink (refusal_of e) (print_cause before after fault e (subst (λ (o : Result T EncodeError). HasCause before after fault o) is h)))
   where
-    no_sink : (p : PrintRefusal) → HasPrintCause fault (Rose before after) p → HasPrintCause fault ⊥ p
-    no_sink (PrintEncode kind) k = k
-    no_sink PrintSink k = absurd (omega (arith, k, first, last))
-    no_sink PrintWant k = tt
+    no_sink : (p : Refusal) → HasPrintCause fault (Rose before after) p → HasPrintCause fault ⊥ p
+    no_sink (Encode kind) k = k
+    no_sink Sink k = absurd (omega (arith, k, first, last))
+    no_sink Memory k = tt
+    no_sink p k = absurd k
+
+-- what failed where no script was put
+pub unprinted_failed : (fault : Option Fault) (source_failed failed : Type 0) (r : Refusal) → HasPrintCause fault failed r → Fails source_failed failed r
+unprinted_failed fault source_failed failed (Encode kind) h = tt
+unprinted_failed fault source_failed failed Sink h = h
+unprinted_failed fault source_failed failed Memory h = tt
+unprinted_failed fault source_failed failed r h = absurd h

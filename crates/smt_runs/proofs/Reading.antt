@@ -16,6 +16,7 @@ use Rattle.smt_jobs.specs.Refused.{IsRefusal, IsTextFault}
 use Rattle.smt_jobs.specs.StepView.{plain_section}
 use Rattle.smt_jobs.specs.declared.numbered.NumberedJob.{NumberedJob}
 use Rattle.smt_runs.specs.Refusal.{job_refusal}
+use Rattle.smt_runs.specs.Runs.{Fails}
 use Rattle.smt_runs.specs.Jobs.{HasFaultOf, HasReadCause, IsReadOf, IsAJob, IsFaultOf, IsFaultlessJob, IsFaultyScript, IsRefusedAs}
 use Rattle.smt_job_terms.specs.declared.error.JobError.{JobError}
 use Rattle.smt_job_terms.specs.declared.error.JobError.TheVariants.{TooLarge as JobTooLarge, Parse as JobParse, TooDeep as JobTooDeep, BadForm as JobBadForm, UnknownName as JobUnknownName, DuplicateName as JobDuplicateName, BadType as JobBadType, BadWidth as JobBadWidth, BadLiteral as JobBadLiteral, IllTyped as JobIllTyped, NotBool as JobNotBool, Unbalanced as JobUnbalanced, Memory as JobWant}
@@ -23,11 +24,11 @@ use Rattle.smt_runs.specs.declared.refusal.EncodeRefusal.{EncodeRefusal}
 use Rattle.smt_runs.specs.declared.refusal.EncodeRefusal.TheVariants.{EmptyEnum, EncodeStringFailed, EncodePatternFailed, EnumMissingMember, ExpectRecord, MalformedRecordGet, MissingTypeEncoding, RecordMissingAttr}
 use Rattle.smt_runs.specs.declared.refusal.JobRefusal.{JobRefusal}
 use Rattle.smt_runs.specs.declared.refusal.JobRefusal.TheVariants.{TooLarge, Parse, TooDeep, BadForm, UnknownName, DuplicateName, BadType, BadWidth, BadLiteral, IllTyped, NotBool, Unbalanced}
-use Rattle.smt_runs.specs.declared.refusal.ReadRefusal.{ReadRefusal}
-use Rattle.smt_runs.specs.declared.refusal.ReadRefusal.TheVariants.{Job as ReadJob, Source as ReadSource, Memory as ReadWant}
+use Rattle.smt_runs.specs.declared.refusal.Refusal.{Refusal}
+use Rattle.smt_runs.specs.declared.refusal.Refusal.TheVariants.{Job, Source, Memory}
 
 -- why bytes were refused as a job
-abbrev WhyRefused : List ℕ → ReadRefusal → Type 0
+abbrev WhyRefused : List ℕ → Refusal → Type 0
 WhyRefused bytes r = HasReadCause (Some bytes) ⊥ r
 
 module _ (bytes : List ℕ) (within : length bytes ≤ greatest_length) where
@@ -47,27 +48,36 @@ module _ (bytes : List ℕ) (within : length bytes ≤ greatest_length) where
   why_refused JobWant refused = tt
 
 -- the source failed or not: a cause that needs no failure is one beside it
-beside : (source_failed : Type 0) (bytes : List ℕ) (r : ReadRefusal) → WhyRefused bytes r → HasReadCause (Some bytes) source_failed r
-beside source_failed bytes (ReadJob kind) h = h
-beside source_failed bytes ReadSource h = absurd h
-beside source_failed bytes ReadWant h = tt
+beside : (source_failed : Type 0) (bytes : List ℕ) (r : Refusal) → WhyRefused bytes r → HasReadCause (Some bytes) source_failed r
+beside source_failed bytes (Job kind) h = h
+beside source_failed bytes Source h = absurd h
+beside source_failed bytes Memory h = tt
+beside source_failed bytes r h = absurd h
 
-untold : (source_failed : Type 0) (r : ReadRefusal) (bytes : List ℕ) → WhyRefused bytes r → HasReadCause None source_failed r
-untold source_failed (ReadJob kind) bytes h = tt
-untold source_failed ReadSource bytes h = absurd h
-untold source_failed ReadWant bytes h = tt
+untold : (source_failed : Type 0) (r : Refusal) (bytes : List ℕ) → WhyRefused bytes r → HasReadCause None source_failed r
+untold source_failed (Job kind) bytes h = tt
+untold source_failed Source bytes h = absurd h
+untold source_failed Memory bytes h = tt
+untold source_failed r bytes h = absurd h
 
-cause_read : (remaining : Option (List ℕ)) (source_failed : Type 0) (bytes : List ℕ) (r : ReadRefusal) → IfSome remaining (λ told. told ≡ bytes) → WhyRefused bytes r → HasReadCause remaining source_failed r
+cause_read : (remaining : Option (List ℕ)) (source_failed : Type 0) (bytes : List ℕ) (r : Refusal) → IfSome remaining (λ told. told ≡ bytes) → WhyRefused bytes r → HasReadCause remaining source_failed r
 cause_read (Some told) source_failed bytes r same h = subst (λ (b : List ℕ). HasReadCause (Some b) source_failed r) (sym same) (beside source_failed bytes r h)
 cause_read None source_failed bytes r same h = untold source_failed r bytes h
 
 -- what was read whole and is no job is refused as such
-pub job_unread : {T : Type 0} (result : Result T ReadRefusal) (error : JobError) (remaining : Option (List ℕ)) (source_failed : Type 0) (all bytes : List ℕ) → IsErrAnd result (λ r. r ≡ job_refusal error) → IfSome remaining (λ told. told ≡ all) → bytes ≡ all
+pub job_unread : {T : Type 0} (result : Result T Refusal) (error : JobError) (remaining : Option (List ℕ)) (source_failed : Type 0) (all bytes : List ℕ) → IsErrAnd result (λ r. r ≡ job_refusal error) → IfSome remaining (λ told. told ≡ all) → bytes ≡ all
     → length bytes ≤ greatest_length → IsRefusal error bytes → IfErr result (HasReadCause remaining source_failed)
 job_unread (Ok job) error remaining source_failed all bytes e whole same short refused = tt
 job_unread (Err r) error remaining source_failed all bytes e whole same short refused =
-    subst (λ (x : ReadRefusal). HasReadCause remaining source_failed x) (sym e)
+    subst (λ (x : Refusal). HasReadCause remaining source_failed x) (sym e)
     (cause_read remaining source_failed all (job_refusal error) whole (subst (λ (b : List ℕ). WhyRefused b (job_refusal error)) same (why_refused bytes short error refused)))
+
+-- what failed where no job was read
+pub unread_failed : (left : Option (List ℕ)) (failed sink_failed : Type 0) (r : Refusal) → HasReadCause left failed r → Fails failed sink_failed r
+unread_failed left failed sink_failed (Job kind) h = tt
+unread_failed left failed sink_failed Source h = h
+unread_failed left failed sink_failed Memory h = tt
+unread_failed left failed sink_failed r h = absurd h
 
 -- what was read of bytes is built of what the source told
 pub told_built : (remaining : Option (List ℕ)) (job : NumberedJob) → IsReadOf remaining job → IfSome remaining (λ bytes. IsBuiltFrom bytes (plain_section job.section) (numbered_job job))

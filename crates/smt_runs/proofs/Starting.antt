@@ -9,9 +9,9 @@ use Rattle.law_terms.specs.Faults.{first_fault}
 use Rattle.law_terms.specs.TypeValues.{Enums}
 use Rattle.law_theorem.specs.Fits.{new_stages}
 use Rattle.law_jobs.specs.Steps.{PlainStep, AreBalanced, asserted}
-use Rattle.law_job_scripts.specs.Asked.{AreAsked}
-use Rattle.law_job_scripts.specs.JobTexts.{text_behind}
-use Rattle.law_job_scripts.proofs.Asking.{asked_nothing}
+use Rattle.smt_runs.specs.Asked.{AreAsked}
+use Rattle.smt_runs.specs.JobTexts.{text_behind}
+use Rattle.smt_runs.proofs.Asking.{asked_nothing}
 use Rattle.smt_solve.specs.Link.{AllowsOnly, LinkState}
 use Rattle.smt_solve.specs.Session.{StartsSession}
 use Rattle.smt_solve.specs.Starter.{Command as SolverCall, Finishes, StarterState, add_told}
@@ -28,12 +28,10 @@ use Rattle.smt_nodes.specs.declared.interner.Interner.{Interner}
 use Rattle.smt_runs.specs.Asking.{AskedSoFar, AsksAll, AsksSolver, BreaksOff, SpokeAtLeast, StopsAsking, StopsBefore, WhyNotAsked}
 use Rattle.smt_runs.specs.Jobs.{HasPrintCause}
 use Rattle.smt_runs.specs.Pieces.{PutsPiece}
+use Rattle.smt_runs.specs.Runs.{Fails}
 use Rattle.smt_runs.specs.Progress.{AtPiece}
-use Rattle.smt_runs.specs.Refusal.{unprinted_refusal}
-use Rattle.smt_runs.specs.declared.refusal.CheckRefusal.{CheckRefusal}
-use Rattle.smt_runs.specs.declared.refusal.CheckRefusal.TheVariants.{Encode, Sink, Start, Session, Memory}
-use Rattle.smt_runs.specs.declared.refusal.PrintRefusal.{PrintRefusal}
-use Rattle.smt_runs.specs.declared.refusal.PrintRefusal.TheVariants.{Encode as PrintEncode, Sink as PrintSink, Memory as PrintWant}
+use Rattle.smt_runs.specs.declared.refusal.Refusal.{Refusal}
+use Rattle.smt_runs.specs.declared.refusal.Refusal.TheVariants.{Encode, Sink, Start, Session, Memory}
 use Rattle.smt_runs.proofs.AtLeast.{at_least_now, at_least_too, gave_too}
 use Rattle.smt_runs.proofs.Talking.{all_words, refused_with, stops_too}
 
@@ -68,7 +66,7 @@ pub first_balanced : (m n : Interner) (steps : List NumberedStep) → m ≡ n �
 first_balanced m n steps same b = subst (λ (i : Interner). AreBalanced 0 (steps_by i steps)) (sym same) b
 
 -- why the first lines were not made
-pub print_cause_there : {T : Type 0} (e f : Enums) (m n : Interner) (steps : List NumberedStep) (outcome : Result T PrintRefusal) (why : PrintRefusal) → e ≡ f → m ≡ n → outcome ≡ Err why → IfErr outcome (HasPrintCause (first_fault e (asserted (steps_by m steps))) ⊥) → HasPrintCause (first_fault f (asserted (steps_by n steps))) ⊥ why
+pub print_cause_there : {T : Type 0} (e f : Enums) (m n : Interner) (steps : List NumberedStep) (outcome : Result T Refusal) (why : Refusal) → e ≡ f → m ≡ n → outcome ≡ Err why → IfErr outcome (HasPrintCause (first_fault e (asserted (steps_by m steps))) ⊥) → HasPrintCause (first_fault f (asserted (steps_by n steps))) ⊥ why
 print_cause_there {T} e f m n steps outcome why same_enums same_nodes was h =
     subst (λ (x : Enums). HasPrintCause (first_fault x (asserted (steps_by n steps))) ⊥ why) same_enums
     (subst (λ (i : Interner). HasPrintCause (first_fault e (asserted (steps_by i steps))) ⊥ why) same_nodes
@@ -83,21 +81,21 @@ pub so_far_at : (enums : Enums) (encoder : Encoder (Unit {0})) (steps left : Lis
 so_far_at enums encoder steps left lines at = record { done = at.done; left = left; cut = at.cut; stops = at.stops; faultless = at.faultless; asked = at.asked }
 
 -- what was said, whatever came of the question
-pub spoke_anyway : {T : Type 0} (enums : Enums) (steps : List PlainStep) (held now : Option (List ℕ)) (failed : Type 0) (allows : List ℕ → List ℕ → List ℕ → Type 0) (s : LinkState) (result : Result T CheckRefusal)
+pub spoke_anyway : {T : Type 0} (enums : Enums) (steps : List PlainStep) (held now : Option (List ℕ)) (failed : Type 0) (allows : List ℕ → List ℕ → List ℕ → Type 0) (s : LinkState) (result : Result T Refusal)
     → OnOk result ((checks : List AnsweredCheck) × (rest : List ℕ) × AsksAll enums steps held now allows s checks rest) → IfErr result (StopsAsking enums steps held now failed allows s) → SpokeAtLeast allows s held now
 spoke_anyway enums steps held now failed allows s (Ok x) a h = record { checks = a.0; answered = at_least_now allows s a.0 a.1 a.2.answered a.2.gave; put = all_words held now a.0 a.2.put }
 spoke_anyway enums steps held now failed allows s (Err (Encode kind)) a h = record { checks = h.1.checks; answered = at_least_now allows s h.1.checks h.1.rest h.1.answered h.1.gave; put = all_words held now h.1.checks h.1.put }
 spoke_anyway enums steps held now failed allows s (Err Sink) a h = record { checks = h.1.checks; answered = at_least_now allows s h.1.checks h.1.rest h.1.answered h.1.gave; put = h.1.put }
-spoke_anyway enums steps held now failed allows s (Err Start) a h = absurd h
 spoke_anyway enums steps held now failed allows s (Err (Session kind)) a h = record { checks = h.checks; answered = h.answered; put = all_words held now h.checks h.put }
 spoke_anyway enums steps held now failed allows s (Err Memory) a h = h
+spoke_anyway enums steps held now failed allows s (Err r) a h = absurd h
 
 -- what was said, by what another relation allows too
 pub spoke_too : (first second : List ℕ → List ℕ → List ℕ → Type 0) → AllowsOnly first second → (s : LinkState) (held now : Option (List ℕ)) → SpokeAtLeast first s held now → SpokeAtLeast second s held now
 spoke_too first second only s held now h = record { checks = h.checks; answered = at_least_too first second only s h.checks h.answered; put = h.put }
 
 -- what came of the question, by the enum types of another encoder and the link that was taken out of the session
-module _ {U : Type 0} (e f : Enums) (s t : LinkState) (steps : List PlainStep) (held now : Option (List ℕ)) (result : Result U CheckRefusal) (same_enums : e ≡ f) (same_link : s ≡ t) where
+module _ {U : Type 0} (e f : Enums) (s t : LinkState) (steps : List PlainStep) (held now : Option (List ℕ)) (result : Result U Refusal) (same_enums : e ≡ f) (same_link : s ≡ t) where
   pub handed_ok : (allows : List ℕ → List ℕ → List ℕ → Type 0) → OnOk result ((checks : List AnsweredCheck) × (rest : List ℕ) × AsksAll e steps held now allows s checks rest) → OnOk result ((checks : List AnsweredCheck) × (rest : List ℕ) × AsksAll f steps held now allows t checks rest)
   handed_ok allows h =
       subst (λ (x : Enums). OnOk result ((checks : List AnsweredCheck) × (rest : List ℕ) × AsksAll x steps held now allows t checks rest)) same_enums
@@ -135,10 +133,10 @@ stopped_at_start {L} {T} old new command held result e was starts = record {
 
 module _ {L : Type 0} (state : L → LinkState) (allows : List ℕ → List ℕ → List ℕ → Type 0) (old new : StarterState L) (command : SolverCall) (enums : Enums) (steps : List PlainStep) (held now : Option (List ℕ)) where
   -- nothing was started
-  pub not_started : (failed : Type 0) (why : PrintRefusal) → new ≡ old → now ≡ held → HasPrintCause (first_fault enums (asserted steps)) ⊥ why → WhyNotAsked state allows old new command enums steps held now failed (unprinted_refusal why)
-  not_started failed (PrintEncode kind) same unput h = (h, inl (same, unput))
-  not_started failed PrintSink same unput h = absurd h
-  not_started failed PrintWant same unput h = inl (stopped_before old new command held now same unput)
+  pub not_started : (failed : Type 0) (why : Refusal) → new ≡ old → now ≡ held → HasPrintCause (first_fault enums (asserted steps)) ⊥ why → WhyNotAsked state allows old new command enums steps held now failed why
+  not_started failed (Encode kind) same unput h = (h, inl (same, unput))
+  not_started failed Memory same unput h = inl (stopped_before old new command held now same unput)
+  not_started failed why same unput h = absurd h
 
   module _ {T : Type 0} (between : StarterState L) (link : L) (x : T) (starts : StartsSession old between command (Ok x)) (finishes : Finishes {T = Unit {0}} between new link (state link).faults (Ok tt)) where
     returned : (P : L → Type 0) → P link → Returns P old new command
@@ -149,12 +147,12 @@ module _ {L : Type 0} (state : L → LinkState) (allows : List ℕ → List ℕ 
       of_link = h;
     }
 
-    why_not : (failed : Type 0) (r : CheckRefusal) → StopsAsking enums steps held now failed allows (state link) r → WhyNotAsked state allows old new command enums steps held now failed r
+    why_not : (failed : Type 0) (r : Refusal) → StopsAsking enums steps held now failed allows (state link) r → WhyNotAsked state allows old new command enums steps held now failed r
     why_not failed (Encode kind) h = (h.0, inr (returned _ h.1))
     why_not failed Sink h = (h.0, returned _ h.1)
-    why_not failed Start h = absurd h
     why_not failed (Session kind) h = returned _ (h, counted_back (state link).faults old.link_faults between.link_faults new.link_faults starts.same_link_faults finishes.faulty)
     why_not failed Memory h = inr (inl (returned _ h))
+    why_not failed r h = absurd h
 
     pub all_asked : (of_link : List ℕ → List ℕ → List ℕ → Type 0) (checks : List AnsweredCheck) (rest : List ℕ) → AllowsOnly of_link allows → AsksAll enums steps held now of_link (state link) checks rest → AsksSolver state allows old new command enums steps held now
     all_asked of_link checks rest only a = record {
@@ -164,12 +162,12 @@ module _ {L : Type 0} (state : L → LinkState) (allows : List ℕ → List ℕ 
     }
 
     -- what came of the question, where the link came back
-    pub asked_anyway : {U : Type 0} (of_link : List ℕ → List ℕ → List ℕ → Type 0) (failed : Type 0) (result : Result U CheckRefusal) → AllowsOnly of_link allows
+    pub asked_anyway : {U : Type 0} (of_link : List ℕ → List ℕ → List ℕ → Type 0) (failed : Type 0) (result : Result U Refusal) → AllowsOnly of_link allows
         → OnOk result ((checks : List AnsweredCheck) × (rest : List ℕ) × AsksAll enums steps held now of_link (state link) checks rest) → OnOk result (AsksSolver state allows old new command enums steps held now)
     asked_anyway of_link failed (Ok u) only a = all_asked of_link a.0 a.1 only a.2
     asked_anyway of_link failed (Err e) only a = tt
 
-    pub refused_anyway : {U : Type 0} (of_link : List ℕ → List ℕ → List ℕ → Type 0) (failed : Type 0) (result : Result U CheckRefusal) → AllowsOnly of_link allows → IfErr result (StopsAsking enums steps held now failed of_link (state link)) → IfErr result (WhyNotAsked state allows old new command enums steps held now failed)
+    pub refused_anyway : {U : Type 0} (of_link : List ℕ → List ℕ → List ℕ → Type 0) (failed : Type 0) (result : Result U Refusal) → AllowsOnly of_link allows → IfErr result (StopsAsking enums steps held now failed of_link (state link)) → IfErr result (WhyNotAsked state allows old new command enums steps held now failed)
     refused_anyway of_link failed (Ok u) only h = tt
     refused_anyway of_link failed (Err e) only h = why_not failed e (stops_too enums steps held now failed of_link allows only (state link) e h)
 
@@ -181,3 +179,22 @@ module _ {L : Type 0} (state : L → LinkState) (allows : List ℕ → List ℕ 
     same_returned = finishes.err ∙ starts.same_returned;
     of_link = h;
   }))
+
+-- ---- what failed where a solver was not asked by all steps, and what is known besides
+
+module _ {L : Type 0} (state : L → LinkState) (allows : List ℕ → List ℕ → List ℕ → Type 0) (old new : StarterState L) (command : SolverCall) (enums : Enums) (steps : List PlainStep) (held now : Option (List ℕ)) (failed : Type 0) where
+  pub unasked_failed : (source_failed : Type 0) (r : Refusal) → WhyNotAsked state allows old new command enums steps held now failed r → Fails source_failed failed r
+  unasked_failed source_failed (Encode kind) h = tt
+  unasked_failed source_failed Sink h = h.0
+  unasked_failed source_failed Start h = tt
+  unasked_failed source_failed (Session kind) h = tt
+  unasked_failed source_failed Memory h = tt
+  unasked_failed source_failed r h = absurd h
+
+  pub unasked_known : (r : Refusal) → WhyNotAsked state allows old new command enums steps held now failed r → WhyNotAsked state allows old new command enums steps held now (Unit {0}) r
+  unasked_known (Encode kind) h = h
+  unasked_known Sink h = (tt, h.1)
+  unasked_known Start h = h
+  unasked_known (Session kind) h = h
+  unasked_known Memory h = h
+  unasked_known r h = absurd h

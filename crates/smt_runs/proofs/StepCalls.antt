@@ -12,7 +12,7 @@ use Rattle.law_lines.specs.Lines.{Call, EncodeCall, PopCall, PushCall, after_cal
 use Rattle.law_theorem.specs.Fits.{Stages, encoding_of}
 use Rattle.law_theorem.proofs.FitKept.{encodings_agree}
 use Rattle.law_jobs.specs.Steps.{PlainStep, AreBalanced, AssertStep, PopStep, PushStep, asserted}
-use Rattle.law_job_scripts.specs.JobTexts.{stages_of_step, text_of_step}
+use Rattle.smt_runs.specs.JobTexts.{stages_of_step, text_of_step}
 use Rattle.smt_nodes.specs.Interned.{StandFor}
 use Rattle.smt_nodes.specs.declared.id.NodeId.{NodeId}
 use Rattle.smt_nodes.specs.declared.interner.Interner.{Interner}

@@ -13,10 +13,10 @@ use Rattle.law_terms.specs.Faults.{Fault, first_fault}
 use Rattle.law_terms.specs.TypeValues.{Enums}
 use Rattle.law_theorem.specs.Fits.{Stages, encoding_of, new_stages}
 use Rattle.law_jobs.specs.Steps.{PlainStep, AreBalanced, AssertStep, CheckStep, PopStep, PushStep, asserted}
-use Rattle.law_job_scripts.specs.Asked.{AreAsked}
-use Rattle.law_job_scripts.specs.JobTexts.{stages_behind, text_behind}
-use Rattle.law_job_scripts.proofs.Asking.{asked_nothing, asked_then}
-use Rattle.law_job_scripts.proofs.Behind.{balanced_behind, fault_within, faultless_joined, stages_then}
+use Rattle.smt_runs.specs.Asked.{AreAsked}
+use Rattle.smt_runs.specs.JobTexts.{stages_behind, text_behind}
+use Rattle.smt_runs.proofs.Asking.{asked_nothing, asked_then}
+use Rattle.smt_runs.proofs.Behind.{balanced_behind, fault_within, faultless_joined, stages_then}
 use Rattle.smt_script.specs.Sink.{AppendsPart, Rose}
 use Rattle.smt_solve.specs.Link.{AllowsOnly, AllowsTheSame, LinkState}
 use Rattle.smt_solve.specs.Question.{BeginsExchange}
@@ -36,14 +36,12 @@ use Rattle.smt_runs.specs.Asking.{AskedSoFar, AsksAll, HasAtLeastAnswered, PutsW
 use Rattle.smt_runs.specs.Jobs.{HasPrintCause, IsFaultOf}
 use Rattle.smt_runs.specs.Pieces.{PutsPiece, StopsAt}
 use Rattle.smt_runs.specs.Progress.{AtPiece}
-use Rattle.smt_runs.specs.Refusal.{check_refusal, unprinted_refusal}
+use Rattle.smt_runs.specs.Refusal.{check_refusal}
 use Rattle.smt_runs.specs.Speaking.{SpeaksInPart, SpeaksNext, StopsSpeaking}
-use Rattle.smt_runs.specs.declared.refusal.CheckRefusal.{CheckRefusal}
-use Rattle.smt_runs.specs.declared.refusal.CheckRefusal.TheVariants.{Encode, Sink, Start, Session, Memory}
+use Rattle.smt_runs.specs.declared.refusal.Refusal.{Refusal}
+use Rattle.smt_runs.specs.declared.refusal.Refusal.TheVariants.{Encode, Sink, Start, Session, Memory}
 use Rattle.smt_runs.specs.declared.refusal.EncodeRefusal.{EncodeRefusal}
 use Rattle.smt_runs.specs.declared.refusal.EncodeRefusal.TheVariants.{EmptyEnum, EncodeStringFailed, EncodePatternFailed, EnumMissingMember, ExpectRecord, MalformedRecordGet, MissingTypeEncoding, RecordMissingAttr}
-use Rattle.smt_runs.specs.declared.refusal.PrintRefusal.{PrintRefusal}
-use Rattle.smt_runs.specs.declared.refusal.PrintRefusal.TheVariants.{Encode as PrintEncode, Sink as PrintSink, Memory as PrintWant}
 use Rattle.smt_runs.proofs.AtLeast.{at_least_behind, at_least_now, at_least_too, gave_too}
 use Rattle.smt_runs.proofs.Loop.{known_nothing, known_twice}
 
@@ -82,15 +80,15 @@ last_word held now next checks lines answer d was p = record {
 -- ---- what is said by what a link allows
 
 -- why a solver was not asked, by what another relation allows too
-pub stops_too : (enums : Enums) (steps : List PlainStep) (held now : Option (List ℕ)) (failed : Type 0) (first second : List ℕ → List ℕ → List ℕ → Type 0) (only : AllowsOnly first second) (s : LinkState) (r : CheckRefusal) → StopsAsking enums steps held now failed first s r → StopsAsking enums steps held now failed second s r
+pub stops_too : (enums : Enums) (steps : List PlainStep) (held now : Option (List ℕ)) (failed : Type 0) (first second : List ℕ → List ℕ → List ℕ → Type 0) (only : AllowsOnly first second) (s : LinkState) (r : Refusal) → StopsAsking enums steps held now failed first s r → StopsAsking enums steps held now failed second s r
 stops_too enums steps held now failed first second only s (Encode kind) h =
     (h.0, record { checks = h.1.checks; rest = h.1.rest; answered = h.1.answered; gave = gave_too first second only s h.1.checks h.1.gave; put = h.1.put })
 stops_too enums steps held now failed first second only s Sink h =
     (h.0, record { checks = h.1.checks; rest = h.1.rest; answered = h.1.answered; gave = gave_too first second only s h.1.checks h.1.gave; put = h.1.put })
-stops_too enums steps held now failed first second only s Start h = absurd h
 stops_too enums steps held now failed first second only s (Session kind) h =
     record { checks = h.checks; lines = h.lines; so_far = h.so_far; answered = at_least_too first second only s h.checks h.answered; why = h.why; put = h.put }
 stops_too enums steps held now failed first second only s Memory h = record { checks = h.checks; answered = at_least_too first second only s h.checks h.answered; put = h.put }
+stops_too enums steps held now failed first second only s r h = absurd h
 
 -- ---- faults of a kind
 
@@ -178,9 +176,8 @@ module _ (enums : Enums) (steps : List PlainStep) where
         record { checks = with_check t.checks lines w.0 w.1; rest = []; answered = w.2; gave = w.3; put = last_word held now next t.checks lines w.0 w.1 t.put w.4 }
 
     -- a check's word was not put
-    pub stops_at_word : (old new : LinkState) (now next : Option (List ℕ)) (part whole : Type 0) (r : CheckRefusal) (t : IsTalking enums encoder steps left lines allows old held now) → (part → whole)
+    pub stops_at_word : (old new : LinkState) (now next : Option (List ℕ)) (part whole : Type 0) (r : Refusal) (t : IsTalking enums encoder steps left lines allows old held now) → (part → whole)
         → StopsSpeaking allows old new now next part lines r → StopsAsking enums steps held next whole allows new r
-    stops_at_word old new now next part whole (Encode kind) t rose h = absurd h
     stops_at_word old new now next part whole Sink t rose h = (rose h.0, stops_in_word old new now next t h.1)
     stops_at_word old new now next part whole Start t rose h = absurd (h t.checks [] t.answered)
     stops_at_word old new now next part whole (Session kind) t rose h = record {
@@ -199,6 +196,7 @@ module _ (enums : Enums) (steps : List PlainStep) where
     stops_at_word old new now next part whole Memory t rose (inr h) =
         let s = stops_in_word old new now next t h in
         record { checks = s.checks; answered = at_least_now allows new s.checks s.rest s.answered s.gave; put = s.put }
+    stops_at_word old new now next part whole r t rose h = absurd h
 
     -- lines were not sent
     pub stops_sending : (s : LinkState) (now : Option (List ℕ)) (failed : Type 0) (checks : List AnsweredCheck) (at : AtPiece enums encoder steps left checks lines) (e : CheckError) → HasAtLeastAnswered allows s checks → now ≡ append_known held (words_of checks) → WhyUnsent s e
@@ -220,11 +218,11 @@ module _ (enums : Enums) (steps : List PlainStep) where
         }
 
   -- the next lines were not made
-  pub stops_writing : (held now : Option (List ℕ)) (failed : Type 0) (allows : List ℕ → List ℕ → List ℕ → Type 0) (s : LinkState) (checks : List AnsweredCheck) (fault : Option Fault) (why : PrintRefusal) → ((f : Fault) → fault ≡ Some f → first_fault enums (asserted steps) ≡ Some f) → HasAnswered s checks [] → GaveAllowed allows s checks
-      → now ≡ append_known held (words_of checks) → HasPrintCause fault ⊥ why → StopsAsking enums steps held now failed allows s (unprinted_refusal why)
-  stops_writing held now failed allows s checks fault (PrintEncode kind) more answered gave put h = (kind_moved kind fault (first_fault enums (asserted steps)) more h, record { checks = checks; rest = []; answered = answered; gave = gave; put = put })
-  stops_writing held now failed allows s checks fault PrintSink more answered gave put h = absurd h
-  stops_writing held now failed allows s checks fault PrintWant more answered gave put h = record { checks = checks; answered = at_least_now allows s checks [] answered gave; put = all_words held now checks put }
+  pub stops_writing : (held now : Option (List ℕ)) (failed : Type 0) (allows : List ℕ → List ℕ → List ℕ → Type 0) (s : LinkState) (checks : List AnsweredCheck) (fault : Option Fault) (why : Refusal) → ((f : Fault) → fault ≡ Some f → first_fault enums (asserted steps) ≡ Some f) → HasAnswered s checks [] → GaveAllowed allows s checks
+      → now ≡ append_known held (words_of checks) → HasPrintCause fault ⊥ why → StopsAsking enums steps held now failed allows s why
+  stops_writing held now failed allows s checks fault (Encode kind) more answered gave put h = (kind_moved kind fault (first_fault enums (asserted steps)) more h, record { checks = checks; rest = []; answered = answered; gave = gave; put = put })
+  stops_writing held now failed allows s checks fault Memory more answered gave put h = record { checks = checks; answered = at_least_now allows s checks [] answered gave; put = all_words held now checks put }
+  stops_writing held now failed allows s checks fault why more answered gave put h = absurd h
 
 -- ---- the loop
 
@@ -251,7 +249,7 @@ module _ {S K : Type 0} (state : K → LinkState) (allows : K → List ℕ → L
         let t = u.talks steps start in
         record { checks = t.checks; at = t.at; answered = t.answered; gave = gave_too (allows (session_link session0)) (allows (session_link session)) u.same_allows.there (state_by state session) t.checks t.gave; put = t.put }
 
-    pub word_refused : (steps : List PlainStep) → StartsAt steps → (new : LinkState) (next : Option (List ℕ)) (after : ℕ) (bytes : List ℕ) (r : CheckRefusal) → bytes ≡ lines
+    pub word_refused : (steps : List PlainStep) → StartsAt steps → (new : LinkState) (next : Option (List ℕ)) (after : ℕ) (bytes : List ℕ) (r : Refusal) → bytes ≡ lines
         → StopsSpeaking (allows (session_link session)) (state_by state session) new (contents out) next (Rose (faults out) after) bytes r → StopsAsking (enums_in first) steps (contents out0) next (Rose (faults out0) after) (allows (session_link session0)) new r
     word_refused steps start new next after bytes r same h =
         stops_too (enums_in first) steps (contents out0) next (Rose (faults out0) after) (allows (session_link session)) (allows (session_link session0)) u.same_allows.back new r
@@ -292,7 +290,7 @@ module _ {S K : Type 0} (state : K → LinkState) (allows : K → List ℕ → L
             let t = talks_here steps start in
             subst (λ (l : List ℕ). SpeaksNext (allows (session_link session)) (state_by state session) (state_by state session1) (contents out) (contents out1) l) same spoke t.checks [] t.answered t.gave
 
-        pub piece_refused : (steps : List PlainStep) → StartsAt steps → (failed : Type 0) (why : PrintRefusal) → HasPrintCause (first_fault (enums_in encoder) (asserted (steps_by (nodes_in encoder) behind))) ⊥ why → StopsAsking (enums_in first) steps (contents out0) (contents out1) failed (allows (session_link session0)) (state_by state session1) (unprinted_refusal why)
+        pub piece_refused : (steps : List PlainStep) → StartsAt steps → (failed : Type 0) (why : Refusal) → HasPrintCause (first_fault (enums_in encoder) (asserted (steps_by (nodes_in encoder) behind))) ⊥ why → StopsAsking (enums_in first) steps (contents out0) (contents out1) failed (allows (session_link session0)) (state_by state session1) why
         piece_refused steps start failed why h =
             let at = at_check steps start in
             let checks = (u.talks steps start).checks in

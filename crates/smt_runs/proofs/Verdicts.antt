@@ -13,7 +13,7 @@ use Rattle.smt_pool.specs.Dialogue.{AnswersNext, RefusesNext}
 use Rattle.smt_pool.specs.declared.check_error.CheckError.{CheckError}
 use Rattle.smt_pool.specs.declared.check_error.CheckError.TheVariants.{Start as NoStart, Session as NoSession, Memory as CheckWant}
 use Rattle.smt_runs.specs.Asking.{verdict_line}
-use Rattle.smt_runs.specs.Refusal.{check_refusal, unput_refusal}
+use Rattle.smt_runs.specs.Refusal.{check_refusal, sink_refusal}
 use Rattle.smt_runs.specs.Speaking.{SpeaksInPart, SpeaksNext, StopsSpeaking}
 
 -- what holds of the refusal that an error became
@@ -32,7 +32,7 @@ module _ (old new : LinkState) (allows : List ℕ → List ℕ → List ℕ → 
   put_in_part held now part checks rest has gave = (let a = answered checks rest has gave in (a.0, d, a.1, a.2, part))
 
   -- the word was not put, or not handed on
-  pub not_put : (held now : Option (List ℕ)) (before after : ℕ) (e : SinkError) → (e ≡ SinkFault → Rose before after) → AppendsPart held now (verdict_line d) → StopsSpeaking allows old new held now (Rose before after) lines (unput_refusal e)
+  pub not_put : (held now : Option (List ℕ)) (before after : ℕ) (e : SinkError) → (e ≡ SinkFault → Rose before after) → AppendsPart held now (verdict_line d) → StopsSpeaking allows old new held now (Rose before after) lines (sink_refusal e)
   not_put held now before after SinkFault rose part = (rose refl, put_in_part held now part)
   not_put held now before after SinkWant rose part = inr (put_in_part held now part)
 

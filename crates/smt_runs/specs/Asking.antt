@@ -13,14 +13,14 @@ use Rattle.smt_solve.specs.Starter.{Command as SolverCall, StarterState, add_tol
 use Rattle.smt_solve.specs.declared.answer.Decision.{Decision}
 use Rattle.law_verdicts.specs.Dialogues.{AnsweredCheck, GaveAllowed, HasAnswered, SaysDecision, read_for, sent_for}
 use Rattle.law_verdicts.specs.Verdicts.{logic_text}
-use Rattle.law_job_scripts.specs.Asked.{AreAsked}
+use Rattle.smt_runs.specs.Asked.{AreAsked}
 use Rattle.smt_pool.specs.Checks.{FailsToSendLines, Returns}
 use Rattle.smt_pool.specs.Dialogue.{FailsBehind}
 use Rattle.smt_pool.specs.declared.check_error.SessionFault.{SessionFault}
 use Rattle.smt_runs.specs.Jobs.{IsFaultOf}
 use Rattle.smt_runs.specs.Pieces.{StopsAt}
-use Rattle.smt_runs.specs.declared.refusal.CheckRefusal.{CheckRefusal}
-use Rattle.smt_runs.specs.declared.refusal.CheckRefusal.TheVariants.{Encode, Sink, Start, Session, Memory}
+use Rattle.smt_runs.specs.declared.refusal.Refusal.{Refusal}
+use Rattle.smt_runs.specs.declared.refusal.Refusal.TheVariants.{Encode, Sink, Start, Session, Memory}
 
 -- ---- words
 
@@ -106,16 +106,15 @@ pub record StopsSession (enums : Enums) (steps : List PlainStep) (held now : Opt
   pub put : now ≡ append_known held (words_of checks)
 
 -- Why a solver was not asked by all steps, on a link that tells this now: a term has no script, the sink failed, the session failed, or
--- there
--- was no memory.
+-- there was no memory.
 abbrev pub StopsAsking : Enums → List PlainStep → (held now : Option (List ℕ)) → (failed : Type 0) →
-    (allows : List ℕ → List ℕ → List ℕ → Type 0) → LinkState → CheckRefusal → Type 0
+    (allows : List ℕ → List ℕ → List ℕ → Type 0) → LinkState → Refusal → Type 0
 StopsAsking enums steps held now failed allows s (Encode kind) =
     IsFaultOf kind (first_fault enums (asserted steps)) × Spoke allows s held now
 StopsAsking enums steps held now failed allows s Sink = failed × SpokeInPart allows s held now
-StopsAsking enums steps held now failed allows s Start = ⊥
 StopsAsking enums steps held now failed allows s (Session kind) = StopsSession enums steps held now kind allows s
 StopsAsking enums steps held now failed allows s Memory = SpokeAtLeast allows s held now
+StopsAsking enums steps held now failed allows s refusal = ⊥
 
 -- A link was asked by all steps, which have no fault, and the words of its answers were put.
 pub record AsksAll (enums : Enums) (steps : List PlainStep) (held now : Option (List ℕ)) (allows : List ℕ → List ℕ → List ℕ → Type 0)
@@ -162,7 +161,7 @@ module _ {L : Type 0} (state : L → LinkState) (allows : List ℕ → List ℕ 
 
   -- Why a solver was not asked by all steps. Where one was started its link came back, unless there was no memory to take it back; where
   -- the session failed since its link had, the starter's count of link faults shows it.
-  abbrev pub WhyNotAsked : (failed : Type 0) → CheckRefusal → Type 0
+  abbrev pub WhyNotAsked : (failed : Type 0) → Refusal → Type 0
   WhyNotAsked failed (Encode kind) =
       IsFaultOf kind (first_fault enums (asserted steps))
       × (((new ≡ old) × (now ≡ held)) ⊎ Returns (λ link. Spoke allows (state link) held now) old new command)
@@ -173,3 +172,4 @@ module _ {L : Type 0} (state : L → LinkState) (allows : List ℕ → List ℕ 
       StopsSession enums steps held now kind allows (state link) × (0 < (state link).faults → Rose old.link_faults new.link_faults))
       old new command
   WhyNotAsked failed Memory = BreaksOff state allows old new command held now
+  WhyNotAsked failed refusal = ⊥

@@ -21,10 +21,8 @@ use Rattle.smt_runs.specs.declared.refusal.EncodeRefusal.TheVariants.{RecordMiss
 use Rattle.smt_runs.specs.declared.refusal.JobRefusal.{JobRefusal}
 use Rattle.smt_runs.specs.declared.refusal.JobRefusal.TheVariants.{TooLarge, Parse, TooDeep, BadForm, UnknownName, DuplicateName, BadType}
 use Rattle.smt_runs.specs.declared.refusal.JobRefusal.TheVariants.{BadWidth, BadLiteral, IllTyped, NotBool, Unbalanced}
-use Rattle.smt_runs.specs.declared.refusal.PrintRefusal.{PrintRefusal}
-use Rattle.smt_runs.specs.declared.refusal.PrintRefusal.TheVariants.{Encode as PrintEncode, Sink as PrintSink, Memory as PrintWant}
-use Rattle.smt_runs.specs.declared.refusal.ReadRefusal.{ReadRefusal}
-use Rattle.smt_runs.specs.declared.refusal.ReadRefusal.TheVariants.{Job as ReadJob, Source as ReadSource, Memory as ReadWant}
+use Rattle.smt_runs.specs.declared.refusal.Refusal.{Refusal}
+use Rattle.smt_runs.specs.declared.refusal.Refusal.TheVariants.{Job, Encode, Source, Sink, Memory}
 
 -- some job has these bytes
 abbrev pub IsAJob : List ℕ → Type 0
@@ -85,13 +83,15 @@ pub record IsReadOf (remaining : Option (List ℕ)) (job : NumberedJob) : Type 0
   pub is_built : IsBuiltFrom bytes (plain_section job.section) (numbered_job job)
 
 -- why no job was read
-abbrev pub HasReadCause : (left : Option (List ℕ)) → (failed : Type 0) → ReadRefusal → Type 0
-HasReadCause left failed (ReadJob kind) = IfSome left (IsRefusedAs kind)
-HasReadCause left failed ReadSource = failed
-HasReadCause left failed ReadWant = ⊤
+abbrev pub HasReadCause : (left : Option (List ℕ)) → (failed : Type 0) → Refusal → Type 0
+HasReadCause left failed (Job kind) = IfSome left (IsRefusedAs kind)
+HasReadCause left failed Source = failed
+HasReadCause left failed Memory = ⊤
+HasReadCause left failed refusal = ⊥
 
 -- why no script was put of terms with this first fault
-abbrev pub HasPrintCause : Option Fault → (failed : Type 0) → PrintRefusal → Type 0
-HasPrintCause fault failed (PrintEncode kind) = IsFaultOf kind fault
-HasPrintCause fault failed PrintSink = failed
-HasPrintCause fault failed PrintWant = ⊤
+abbrev pub HasPrintCause : Option Fault → (failed : Type 0) → Refusal → Type 0
+HasPrintCause fault failed (Encode kind) = IsFaultOf kind fault
+HasPrintCause fault failed Sink = failed
+HasPrintCause fault failed Memory = ⊤
+HasPrintCause fault failed refusal = ⊥

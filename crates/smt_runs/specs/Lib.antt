@@ -1,5 +1,8 @@
+pub mod Asked
 pub mod Asking
+pub mod JobTexts
 pub mod Jobs
+pub mod Meaning
 pub mod Pieces
 pub mod Progress
 pub mod Refusal

@@ -5,7 +5,7 @@ use Rattle.law_terms.specs.Faults.{first_fault}
 use Rattle.law_terms.specs.TypeValues.{Enums}
 use Rattle.law_theorem.specs.Fits.{Stages, encoding_of}
 use Rattle.law_jobs.specs.Steps.{PlainStep, AssertStep, CheckStep, PopStep, PushStep, asserted}
-use Rattle.law_job_scripts.specs.JobTexts.{checks_in, stages_behind, text_behind, text_of_job}
+use Rattle.smt_runs.specs.JobTexts.{checks_in, stages_behind, text_behind, text_of_job}
 use Rattle.smt_encode.specs.Encoded.{HasEncoding}
 use Rattle.smt_encode.specs.declared.encoder.Encoder.{Encoder}
 

@@ -5,8 +5,8 @@ use Rattle.law_terms.specs.TypeValues.{Enums}
 use Rattle.law_theorem.specs.Fits.{encoding_of, new_stages}
 use Rattle.law_jobs.specs.Steps.{PlainStep, AreBalanced, asserted}
 use Rattle.law_verdicts.specs.Dialogues.{AnsweredCheck}
-use Rattle.law_job_scripts.specs.Asked.{AreAsked}
-use Rattle.law_job_scripts.specs.JobTexts.{stages_behind}
+use Rattle.smt_runs.specs.Asked.{AreAsked}
+use Rattle.smt_runs.specs.JobTexts.{stages_behind}
 use Rattle.smt_encode.specs.Encoded.{HasEncoding}
 use Rattle.smt_encode.specs.declared.encoder.Encoder.{Encoder}
 use Rattle.smt_runs.specs.Pieces.{StopsAt}

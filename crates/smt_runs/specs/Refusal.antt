@@ -1,4 +1,4 @@
--- What is said where no job is read or its script is not written, and which refusal an error becomes.
+-- What is said of a refusal of a program that reads a job, and which refusal an error becomes.
 use Rattle.std.specs.Prelude.{ℕ, List, codes}
 use Rattle.smt_script.specs.declared.input.InputError.{InputError}
 use Rattle.smt_script.specs.declared.input.InputError.TheVariants.{Fault as InputFault, TooLarge as InputTooLarge, Memory as InputWant}
@@ -22,8 +22,6 @@ use Rattle.smt_script.specs.declared.sink.SinkError.{SinkError}
 use Rattle.smt_script.specs.declared.sink.SinkError.TheVariants.{Fault as SinkFault, Memory as SinkWant}
 use Rattle.smt_pool.specs.declared.check_error.CheckError.{CheckError}
 use Rattle.smt_pool.specs.declared.check_error.CheckError.TheVariants.{Start as NoStart, Session as NoSession, Memory as CheckWant}
-use Rattle.smt_runs.specs.declared.refusal.CheckRefusal.{CheckRefusal}
-use Rattle.smt_runs.specs.declared.refusal.CheckRefusal.TheVariants.{Encode, Sink, Start, Session, Memory}
 use Rattle.smt_runs.specs.declared.refusal.EncodeRefusal.{EncodeRefusal}
 use Rattle.smt_runs.specs.declared.refusal.EncodeRefusal.TheVariants.{EmptyEnum, EncodeStringFailed, EncodePatternFailed, EnumMissingMember}
 use Rattle.smt_runs.specs.declared.refusal.EncodeRefusal.TheVariants.{ExpectRecord, MalformedRecordGet, MissingTypeEncoding}
@@ -31,10 +29,29 @@ use Rattle.smt_runs.specs.declared.refusal.EncodeRefusal.TheVariants.{RecordMiss
 use Rattle.smt_runs.specs.declared.refusal.JobRefusal.{JobRefusal}
 use Rattle.smt_runs.specs.declared.refusal.JobRefusal.TheVariants.{TooLarge, Parse, TooDeep, BadForm, UnknownName, DuplicateName, BadType}
 use Rattle.smt_runs.specs.declared.refusal.JobRefusal.TheVariants.{BadWidth, BadLiteral, IllTyped, NotBool, Unbalanced}
-use Rattle.smt_runs.specs.declared.refusal.PrintRefusal.{PrintRefusal}
-use Rattle.smt_runs.specs.declared.refusal.PrintRefusal.TheVariants.{Encode as PrintEncode, Sink as PrintSink, Memory as PrintWant}
-use Rattle.smt_runs.specs.declared.refusal.ReadRefusal.{ReadRefusal}
-use Rattle.smt_runs.specs.declared.refusal.ReadRefusal.TheVariants.{Job as ReadJob, Source as ReadSource, Memory as ReadWant}
+use Rattle.smt_runs.specs.declared.refusal.BlastRefusal.{BlastRefusal}
+use Rattle.smt_runs.specs.declared.refusal.BlastRefusal.TheVariants.{Unsupported, UnsupportedType}
+use Rattle.smt_runs.specs.declared.refusal.InputRefusal.{InputRefusal}
+use Rattle.smt_runs.specs.declared.refusal.InputRefusal.TheVariants as input
+use Rattle.smt_runs.specs.declared.refusal.Refusal.{Refusal}
+use Rattle.smt_runs.specs.declared.refusal.Refusal.TheVariants.{Job, Input, NotTwo, Encode, Blast, Source, Sink, Start, Session, Memory}
+use Rattle.smt_pool.specs.declared.check_error.SessionFault.{SessionFault}
+use Rattle.smt_pool.specs.declared.check_error.SessionFault.TheVariants.{Io, Solver, UnrecognizedSolverOutput, AnswerTooLong}
+
+-- ---- what is said
+
+-- the status with which a run ends that is refused so
+abbrev pub status_of : Refusal → ℕ
+status_of (Job why) = 3
+status_of (Input why) = 3
+status_of NotTwo = 3
+status_of (Encode why) = 4
+status_of Source = 5
+status_of Sink = 6
+status_of Memory = 7
+status_of (Session kind) = 8
+status_of Start = 9
+status_of (Blast why) = 10
 
 -- the line that says why bytes are no job
 abbrev pub job_line : JobRefusal → List ℕ
@@ -62,57 +79,90 @@ encode_line MissingTypeEncoding = codes "encode refused: MissingTypeEncoding\n"
 encode_line ExpectRecord = codes "encode refused: ExpectRecord\n"
 encode_line RecordMissingAttr = codes "encode refused: RecordMissingAttr\n"
 
+-- the line that says why bytes are no job with an assignment
+abbrev pub input_line : InputRefusal → List ℕ
+input_line input.TooLarge = codes "eval refused: TooLarge\n"
+input_line input.Parse = codes "eval refused: Parse\n"
+input_line input.TooDeep = codes "eval refused: TooDeep\n"
+input_line input.BadForm = codes "eval refused: BadForm\n"
+input_line input.Job = codes "eval refused: Job\n"
+input_line input.UnknownName = codes "eval refused: UnknownName\n"
+input_line input.DuplicateName = codes "eval refused: DuplicateName\n"
+input_line input.NotValue = codes "eval refused: NotValue\n"
+input_line input.Missing = codes "eval refused: Missing\n"
+
+-- the line that says why terms have no circuits
+abbrev pub blast_line : BlastRefusal → List ℕ
+blast_line Unsupported = codes "blast refused: Unsupported\n"
+blast_line UnsupportedType = codes "blast refused: UnsupportedType\n"
+
+-- the line that says why a session failed
+abbrev pub session_line : SessionFault → List ℕ
+session_line Io = codes "session fault: Io\n"
+session_line Solver = codes "session fault: Solver\n"
+session_line UnrecognizedSolverOutput = codes "session fault: UnrecognizedSolverOutput\n"
+session_line AnswerTooLong = codes "session fault: AnswerTooLong\n"
+
+-- the line that says a refusal
+abbrev pub line_of : Refusal → List ℕ
+line_of (Job why) = job_line why
+line_of (Input why) = input_line why
+line_of NotTwo = codes "job refused: NotTwo\n"
+line_of (Encode why) = encode_line why
+line_of (Blast why) = blast_line why
+line_of Source = codes "source fault\n"
+line_of Sink = codes "sink fault\n"
+line_of Start = codes "no start\n"
+line_of (Session kind) = session_line kind
+line_of Memory = codes "memory\n"
+
+-- ---- which refusal an error becomes
+
 -- why no job is read, where its bytes were not
-abbrev pub input_refusal : InputError → ReadRefusal
-input_refusal InputTooLarge = ReadJob TooLarge
-input_refusal InputFault = ReadSource
-input_refusal InputWant = ReadWant
+abbrev pub input_refusal : InputError → Refusal
+input_refusal InputTooLarge = Job TooLarge
+input_refusal InputFault = Source
+input_refusal InputWant = Memory
 
 -- why no job is read, by the error of the reader of jobs
-abbrev pub job_refusal : JobError → ReadRefusal
-job_refusal JobTooLarge = ReadJob TooLarge
-job_refusal (JobParse fault) = ReadJob Parse
-job_refusal JobTooDeep = ReadJob TooDeep
-job_refusal JobBadForm = ReadJob BadForm
-job_refusal (JobUnknownName text) = ReadJob UnknownName
-job_refusal (JobDuplicateName text) = ReadJob DuplicateName
-job_refusal JobBadType = ReadJob BadType
-job_refusal JobBadWidth = ReadJob BadWidth
-job_refusal (JobBadLiteral text) = ReadJob BadLiteral
-job_refusal JobIllTyped = ReadJob IllTyped
-job_refusal JobNotBool = ReadJob NotBool
-job_refusal JobUnbalanced = ReadJob Unbalanced
-job_refusal JobWant = ReadWant
+abbrev pub job_refusal : JobError → Refusal
+job_refusal JobTooLarge = Job TooLarge
+job_refusal (JobParse fault) = Job Parse
+job_refusal JobTooDeep = Job TooDeep
+job_refusal JobBadForm = Job BadForm
+job_refusal (JobUnknownName text) = Job UnknownName
+job_refusal (JobDuplicateName text) = Job DuplicateName
+job_refusal JobBadType = Job BadType
+job_refusal JobBadWidth = Job BadWidth
+job_refusal (JobBadLiteral text) = Job BadLiteral
+job_refusal JobIllTyped = Job IllTyped
+job_refusal JobNotBool = Job NotBool
+job_refusal JobUnbalanced = Job Unbalanced
+job_refusal JobWant = Memory
 
 -- Why a script is not printed, by the error of its encoder. The last three never come of a new encoder that closes open levels alone.
-abbrev pub refusal_of : EncodeError → PrintRefusal
-refusal_of SinkFails = PrintSink
-refusal_of (EntityRefused e) = PrintEncode EnumMissingMember
-refusal_of (StringRefused text) = PrintEncode EncodeStringFailed
-refusal_of (PatternRefused p) = PrintEncode EncodePatternFailed
-refusal_of (EnumRefused ety) = PrintEncode EmptyEnum
-refusal_of NoOperandRefused = PrintEncode MalformedRecordGet
-refusal_of (TypeRefused ty) = PrintEncode MissingTypeEncoding
-refusal_of (NoRecordRefused ty) = PrintEncode ExpectRecord
-refusal_of (AttributeRefused name) = PrintEncode RecordMissingAttr
-refusal_of EncodeWant = PrintWant
-refusal_of IsSpent = PrintWant
-refusal_of NoLevel = PrintWant
-refusal_of (BitsRefused why) = PrintWant
+abbrev pub refusal_of : EncodeError → Refusal
+refusal_of SinkFails = Sink
+refusal_of (EntityRefused e) = Encode EnumMissingMember
+refusal_of (StringRefused text) = Encode EncodeStringFailed
+refusal_of (PatternRefused p) = Encode EncodePatternFailed
+refusal_of (EnumRefused ety) = Encode EmptyEnum
+refusal_of NoOperandRefused = Encode MalformedRecordGet
+refusal_of (TypeRefused ty) = Encode MissingTypeEncoding
+refusal_of (NoRecordRefused ty) = Encode ExpectRecord
+refusal_of (AttributeRefused name) = Encode RecordMissingAttr
+refusal_of EncodeWant = Memory
+refusal_of IsSpent = Memory
+refusal_of NoLevel = Memory
+refusal_of (BitsRefused why) = Memory
 
 -- why a solver is not asked, by the error of a check
-abbrev pub check_refusal : CheckError → CheckRefusal
+abbrev pub check_refusal : CheckError → Refusal
 check_refusal NoStart = Start
 check_refusal (NoSession kind) = Session kind
 check_refusal CheckWant = Memory
 
--- why a solver is not asked, where a word was not put
-abbrev pub unput_refusal : SinkError → CheckRefusal
-unput_refusal SinkFault = Sink
-unput_refusal SinkWant = Memory
-
--- why a solver is not asked, where lines were not written
-abbrev pub unprinted_refusal : PrintRefusal → CheckRefusal
-unprinted_refusal (PrintEncode why) = Encode why
-unprinted_refusal PrintSink = Sink
-unprinted_refusal PrintWant = Memory
+-- why a text was not put
+abbrev pub sink_refusal : SinkError → Refusal
+sink_refusal SinkFault = Sink
+sink_refusal SinkWant = Memory

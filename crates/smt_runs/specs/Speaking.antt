@@ -10,8 +10,8 @@ use Rattle.law_verdicts.specs.Dialogues.{AnsweredCheck, GaveAllowed, HasAnswered
 use Rattle.smt_pool.specs.Dialogue.{WhyUnanswered, with_check}
 use Rattle.smt_pool.specs.declared.check_error.CheckError.TheVariants.{Session as NoSession}
 use Rattle.smt_runs.specs.Asking.{verdict_line}
-use Rattle.smt_runs.specs.declared.refusal.CheckRefusal.{CheckRefusal}
-use Rattle.smt_runs.specs.declared.refusal.CheckRefusal.TheVariants.{Encode, Sink, Start, Session, Memory}
+use Rattle.smt_runs.specs.declared.refusal.Refusal.{Refusal}
+use Rattle.smt_runs.specs.declared.refusal.Refusal.TheVariants.{Sink, Start, Session, Memory}
 
 -- One check more was answered, of these lines behind what was sent since the last, and its word was put.
 abbrev pub SpeaksNext : (allows : List ℕ → List ℕ → List ℕ → Type 0) → (old new : LinkState) → (held now : Option (List ℕ)) →
@@ -32,8 +32,7 @@ SpeaksInPart allows old new held now lines =
 -- Why a check's word was not put. It has no answer: a first part of its lines and of `(check-sat)` was sent, and nothing was put. Or it was
 -- answered, and a first part of its word was put.
 abbrev pub StopsSpeaking : (allows : List ℕ → List ℕ → List ℕ → Type 0) → (old new : LinkState) → (held now : Option (List ℕ)) →
-    (failed : Type 0) → (lines : List ℕ) → CheckRefusal → Type 0
-StopsSpeaking allows old new held now failed lines (Encode kind) = ⊥
+    (failed : Type 0) → (lines : List ℕ) → Refusal → Type 0
 StopsSpeaking allows old new held now failed lines Sink = failed × SpeaksInPart allows old new held now lines
 StopsSpeaking allows old new held now failed lines Start = (checks : List AnsweredCheck) (rest : List ℕ) → HasAnswered old checks rest → ⊥
 StopsSpeaking allows old new held now failed lines (Session kind) =
@@ -41,3 +40,4 @@ StopsSpeaking allows old new held now failed lines (Session kind) =
     WhyUnanswered new checks (rest ++ lines) (NoSession kind)) × BeginsExchange old new (lines ++ check_sat_text) × (now ≡ held)
 StopsSpeaking allows old new held now failed lines Memory =
     (BeginsExchange old new (lines ++ check_sat_text) × (now ≡ held)) ⊎ SpeaksInPart allows old new held now lines
+StopsSpeaking allows old new held now failed lines refusal = ⊥

@@ -9,7 +9,7 @@ ghost use Rattle.smt_jobs.specs.Numbers.{all_steps_stand, steps_by};
 ghost use Rattle.smt_runs.specs.Asking.{AsksSolver, WhyNotAsked};
 
 use crate::dialogue::{converse, next_piece};
-use crate::refusal::CheckRefusal;
+use crate::refusal::Refusal;
 use smt_encode::{Encoder, Steps};
 use smt_jobs::NumberedStep;
 use smt_nodes::Interner;
@@ -41,7 +41,7 @@ pub fn check_steps<L: Ledger, W: Sink, P: Starter>(
     out: &mut W,
     starter: &mut P,
     look_ups: &mut Steps<L>,
-) -> Result<(), CheckRefusal>
+) -> Result<(), Refusal>
     requires stand { IsTrue (all_steps_stand nodes steps.now) }
     requires balanced { AreBalanced 0 (steps_by nodes steps.now) }
     ensures asked { OnOk result (AsksSolver P.L.state (P.allows starter.old) (P.state starter.old)
@@ -59,12 +59,12 @@ pub fn check_steps<L: Ledger, W: Sink, P: Starter>(
     let (lines, left) = first?;
     let mut session = match LocalSolver::from_command(alloc, starter, solver) {
         Ok(session) => session,
-        Err(SolverError::Io) => return Err(CheckRefusal::Start),
-        Err(_) => return Err(CheckRefusal::Memory),
+        Err(SolverError::Io) => return Err(Refusal::Start),
+        Err(_) => return Err(Refusal::Memory),
     };
     let answer = converse(alloc, encoder, lines, left, &mut session, out, look_ups);
     match starter.finish(session.into_link()) {
         Ok(()) => answer,
-        Err(_) => Err(CheckRefusal::Memory),
+        Err(_) => Err(Refusal::Memory),
     }
 }

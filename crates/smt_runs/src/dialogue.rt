@@ -20,7 +20,7 @@ ghost use Rattle.smt_runs.specs.Speaking.{SpeaksNext, StopsSpeaking};
 ghost use Rattle.law_verdicts.specs.Dialogues.{AnsweredCheck};
 
 use crate::pieces::put_piece;
-use crate::refusal::{CheckRefusal, PrintRefusal};
+use crate::refusal::Refusal;
 use smt_encode::{Encoder, Steps};
 use smt_jobs::NumberedStep;
 use smt_pool::{ask_behind, begin_dialogue, send_more};
@@ -48,7 +48,7 @@ pub(crate) fn next_piece<'a, 's, L: Ledger>(
     look_ups: &mut Steps<L>,
 ) -> (
     Encoder<'a, ()>,
-    Result<(ListSink, &'s [NumberedStep]), PrintRefusal>,
+    Result<(ListSink, &'s [NumberedStep]), Refusal>,
 )
     requires stand { IsTrue (all_steps_stand (nodes_in encoder) steps.now) }
     requires unspent { is_spent encoder ≡ false }
@@ -71,7 +71,7 @@ pub(crate) fn next_piece<'a, 's, L: Ledger>(
     let (encoder, outcome) = put_piece(encoder, steps, &mut lines, look_ups);
     match outcome {
         Ok(left) => (encoder, Ok((lines, left))),
-        Err(error) => (encoder, Err(PrintRefusal::of(error))),
+        Err(error) => (encoder, Err(Refusal::of(error))),
     }
 }
 
@@ -80,7 +80,7 @@ fn put_verdict<K: Link, W: Sink>(
     session: &mut LocalSolver<K>,
     lines: &[u8],
     out: &mut W,
-) -> Result<(), CheckRefusal>
+) -> Result<(), Refusal>
     requires { session_failed session.old ≡ false }
     ensures asked { OnOk result (SpeaksNext (K.allows (session_link session.old))
         (state_by K.state session.old) (state_by K.state session.new) (W.contents out.old)
@@ -108,7 +108,7 @@ pub(crate) fn converse<'a, L: Ledger, K: Link, W: Sink>(
     session: &mut LocalSolver<K>,
     out: &mut W,
     look_ups: &mut Steps<L>,
-) -> Result<(), CheckRefusal>
+) -> Result<(), Refusal>
     requires at { (steps : List PlainStep)
         × AtPiece (enums_in encoder) encoder steps (steps_by (nodes_in encoder) left.now) []
         (list_bytes lines) }

@@ -6,7 +6,7 @@ ghost use Rattle.law_terms.specs.Faults.{first_fault};
 ghost use Rattle.smt_term.specs.Enums.{enums_of};
 ghost use Rattle.law_theorem.specs.Fits.{Stages, encoding_of, new_stages};
 ghost use Rattle.law_jobs.specs.Steps.{AreBalanced, asserted};
-ghost use Rattle.law_job_scripts.specs.JobTexts.{stages_of_step, text_of_step};
+ghost use Rattle.smt_runs.specs.JobTexts.{stages_of_step, text_of_step};
 ghost use Rattle.std.specs.Io.KnownBytes.{append_known};
 ghost use Rattle.smt_jobs.specs.Numbers.{all_steps_stand, step_by, step_stands, steps_by};
 ghost use Rattle.smt_encode.specs.Encoded.{enums_in, is_spent, nodes_in, sink_of, HasEncoding};

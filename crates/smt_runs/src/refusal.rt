@@ -1,13 +1,10 @@
-// Why no job is read, why its script is not written, and why a solver is not asked about it.
+// Why a run is refused that reads a job, and what is said of it.
 ghost use Rattle.std.specs.Prelude.{◌≡◌};
-ghost use Rattle.smt_runs.specs.Refusal.{encode_line, job_line, refusal_of};
-ghost use Rattle.smt_encode.specs.declared.error.EncodeError.TheVariants as encoding;
-ghost use Rattle.smt_bits.specs.declared.error.BitVecError.{BitVecError as Bits};
+ghost use Rattle.smt_runs.specs.Refusal.{blast_line, encode_line, input_line, job_line};
+ghost use Rattle.smt_runs.specs.Refusal.{session_line};
 
-use smt_encode::EncodeError;
-use smt_job_terms::JobError;
-use smt_pool::{CheckError, SessionFault};
-use smt_script::{InputError, SinkError};
+use smt_pool::SessionFault;
+use smt_program::Refused;
 
 /// Why bytes are no job. Of several faults it is the first, as [`JobError`] orders them.
 #[derive(Clone, Copy, Debug, PartialEq, Eq, Drop)]
@@ -99,111 +96,96 @@ impl EncodeRefusal {
     }
 }
 
-/// Why no job was read.
+/// Why bytes are no job with an assignment. Of several faults it is the first.
 #[derive(Clone, Copy, Debug, PartialEq, Eq, Drop)]
-pub enum ReadRefusal {
+pub enum InputRefusal {
+    /// There are more than 16777216 bytes.
+    TooLarge,
+    /// The bytes are no expression, by a fault of a token or of a bracket.
+    Parse,
+    /// More than 513 brackets are open at a place.
+    TooDeep,
+    /// A section or an entry has no form, or what stands for the type of a get is none.
+    BadForm,
+    /// The job is refused.
+    Job,
+    /// No variable, function or selector has the name of an entry.
+    UnknownName,
+    /// A name, a type, or a key in an entry is given twice.
+    DuplicateName,
+    /// What stands for a value in an entry is none of its type.
+    NotValue,
+    /// No entry gives what the terms reach.
+    Missing,
+}
+
+impl InputRefusal {
+    /// The line that a program says of it, with its LF.
+    pub fn line(self) -> &'static str
+        ensures { result.now ≡ input_line self }
+    {
+        match self {
+            InputRefusal::TooLarge => "eval refused: TooLarge\n",
+            InputRefusal::Parse => "eval refused: Parse\n",
+            InputRefusal::TooDeep => "eval refused: TooDeep\n",
+            InputRefusal::BadForm => "eval refused: BadForm\n",
+            InputRefusal::Job => "eval refused: Job\n",
+            InputRefusal::UnknownName => "eval refused: UnknownName\n",
+            InputRefusal::DuplicateName => "eval refused: DuplicateName\n",
+            InputRefusal::NotValue => "eval refused: NotValue\n",
+            InputRefusal::Missing => "eval refused: Missing\n",
+        }
+    }
+}
+
+/// Why terms have no circuits.
+#[derive(Clone, Copy, Debug, PartialEq, Eq, Drop)]
+pub enum BlastRefusal {
+    /// An operator has no circuit.
+    Unsupported,
+    /// A type is neither Bool nor a bitvector type.
+    UnsupportedType,
+}
+
+impl BlastRefusal {
+    /// The line that a program says of it, with its LF.
+    pub fn line(self) -> &'static str
+        ensures { result.now ≡ blast_line self }
+    {
+        match self {
+            BlastRefusal::Unsupported => "blast refused: Unsupported\n",
+            BlastRefusal::UnsupportedType => "blast refused: UnsupportedType\n",
+        }
+    }
+}
+
+/// The line that a program says of a session that failed.
+fn line_of_session(kind: SessionFault) -> &'static str
+    ensures { result.now ≡ session_line kind }
+{
+    match kind {
+        SessionFault::Io => "session fault: Io\n",
+        SessionFault::Solver => "session fault: Solver\n",
+        SessionFault::UnrecognizedSolverOutput => "session fault: UnrecognizedSolverOutput\n",
+        SessionFault::AnswerTooLong => "session fault: AnswerTooLong\n",
+    }
+}
+
+/// Why a run is refused of a program that reads a job. Words that are no command are refused before it.
+#[derive(Clone, Copy, Debug, PartialEq, Eq, Drop)]
+pub enum Refusal {
     /// The bytes are no job.
     Job(JobRefusal),
-    /// The source failed.
-    Source,
-    /// There was no memory.
-    Memory,
-}
-
-impl From<InputError> for ReadRefusal {
-    ghost use Rattle.std.specs.Prelude.{◌≡◌};
-    ghost use Rattle.smt_runs.specs.Refusal.{input_refusal};
-
-    ghost from_gives = { λ error refusal. refusal ≡ input_refusal error };
-
-    fn from(error: InputError) -> ReadRefusal {
-        match error {
-            InputError::TooLarge => ReadRefusal::Job(JobRefusal::TooLarge),
-            InputError::Fault => ReadRefusal::Source,
-            InputError::Memory => ReadRefusal::Memory,
-        }
-    }
-}
-
-impl From<JobError> for ReadRefusal {
-    ghost use Rattle.std.specs.Prelude.{◌≡◌};
-    ghost use Rattle.smt_runs.specs.Refusal.{job_refusal};
-
-    ghost from_gives = { λ error refusal. refusal ≡ job_refusal error };
-
-    fn from(error: JobError) -> ReadRefusal {
-        match error {
-            JobError::TooLarge => ReadRefusal::Job(JobRefusal::TooLarge),
-            JobError::Parse(_) => ReadRefusal::Job(JobRefusal::Parse),
-            JobError::TooDeep => ReadRefusal::Job(JobRefusal::TooDeep),
-            JobError::BadForm => ReadRefusal::Job(JobRefusal::BadForm),
-            JobError::UnknownName(_) => ReadRefusal::Job(JobRefusal::UnknownName),
-            JobError::DuplicateName(_) => ReadRefusal::Job(JobRefusal::DuplicateName),
-            JobError::BadType => ReadRefusal::Job(JobRefusal::BadType),
-            JobError::BadWidth => ReadRefusal::Job(JobRefusal::BadWidth),
-            JobError::BadLiteral(_) => ReadRefusal::Job(JobRefusal::BadLiteral),
-            JobError::IllTyped => ReadRefusal::Job(JobRefusal::IllTyped),
-            JobError::NotBool => ReadRefusal::Job(JobRefusal::NotBool),
-            JobError::Unbalanced => ReadRefusal::Job(JobRefusal::Unbalanced),
-            JobError::Memory => ReadRefusal::Memory,
-        }
-    }
-}
-
-/// Why no script was printed.
-#[derive(Clone, Copy, Debug, PartialEq, Eq, Drop)]
-pub enum PrintRefusal {
+    /// The bytes are no job with an assignment.
+    Input(InputRefusal),
+    /// The steps of the job are not one assertion of two terms.
+    NotTwo,
     /// A term has no script.
     Encode(EncodeRefusal),
-    /// The sink failed.
-    Sink,
-    /// There was no memory.
-    Memory,
-}
-
-impl PrintRefusal {
-    /// Why no script was printed, by the error of an encoder that was a new one, over bitvectors that are there, whose levels were
-    /// closed only where they were open.
-    pub fn of(error: EncodeError) -> PrintRefusal
-        requires spent { error ≡ encoding.Spent → ⊥ }
-        requires scope { error ≡ encoding.NoScope → ⊥ }
-        requires bits { (why : Bits) → error ≡ encoding.BitVecError why → ⊥ }
-        ensures { result ≡ refusal_of error }
-    {
-        match error {
-            EncodeError::Io => PrintRefusal::Sink,
-            EncodeError::EnumMissingMember(_) => PrintRefusal::Encode(
-                EncodeRefusal::EnumMissingMember,
-            ),
-            EncodeError::EncodeStringFailed(_) => PrintRefusal::Encode(
-                EncodeRefusal::EncodeStringFailed,
-            ),
-            EncodeError::EncodePatternFailed(_) => PrintRefusal::Encode(
-                EncodeRefusal::EncodePatternFailed,
-            ),
-            EncodeError::EmptyEnum(_) => PrintRefusal::Encode(EncodeRefusal::EmptyEnum),
-            EncodeError::MalformedRecordGet => PrintRefusal::Encode(
-                EncodeRefusal::MalformedRecordGet,
-            ),
-            EncodeError::MissingTypeEncoding(_) => PrintRefusal::Encode(
-                EncodeRefusal::MissingTypeEncoding,
-            ),
-            EncodeError::ExpectRecord(_) => PrintRefusal::Encode(EncodeRefusal::ExpectRecord),
-            EncodeError::RecordMissingAttr(_) => PrintRefusal::Encode(
-                EncodeRefusal::RecordMissingAttr,
-            ),
-            EncodeError::Memory => PrintRefusal::Memory,
-            EncodeError::Spent | EncodeError::NoScope | EncodeError::BitVecError(_) =>
-                unreachable!(),
-        }
-    }
-}
-
-/// Why a solver was not asked by all steps of a job.
-#[derive(Clone, Copy, Debug, PartialEq, Eq, Drop)]
-pub enum CheckRefusal {
-    /// A term of a step has no script.
-    Encode(EncodeRefusal),
+    /// A term has no circuit.
+    Blast(BlastRefusal),
+    /// The source failed.
+    Source,
     /// The sink failed.
     Sink,
     /// The solver did not start.
@@ -214,46 +196,38 @@ pub enum CheckRefusal {
     Memory,
 }
 
-impl From<CheckError> for CheckRefusal {
-    ghost use Rattle.std.specs.Prelude.{◌≡◌};
-    ghost use Rattle.smt_runs.specs.Refusal.{check_refusal};
+impl Refused for Refusal {
+    ghost use Rattle.smt_runs.specs.Refusal.{line_of, status_of};
 
-    ghost from_gives = { λ why refusal. refusal ≡ check_refusal why };
+    ghost status_gives = { status_of };
 
-    fn from(why: CheckError) -> CheckRefusal {
-        match why {
-            CheckError::Start => CheckRefusal::Start,
-            CheckError::Session(fault) => CheckRefusal::Session(fault),
-            CheckError::Memory => CheckRefusal::Memory,
+    ghost line_gives = { line_of };
+
+    fn status(&self) -> u8 {
+        match self {
+            Refusal::Job(_) | Refusal::Input(_) | Refusal::NotTwo => 3,
+            Refusal::Encode(_) => 4,
+            Refusal::Source => 5,
+            Refusal::Sink => 6,
+            Refusal::Memory => 7,
+            Refusal::Session(_) => 8,
+            Refusal::Start => 9,
+            Refusal::Blast(_) => 10,
         }
     }
-}
 
-impl From<SinkError> for CheckRefusal {
-    ghost use Rattle.std.specs.Prelude.{◌≡◌};
-    ghost use Rattle.smt_runs.specs.Refusal.{unput_refusal};
-
-    ghost from_gives = { λ error refusal. refusal ≡ unput_refusal error };
-
-    fn from(error: SinkError) -> CheckRefusal {
-        match error {
-            SinkError::Fault => CheckRefusal::Sink,
-            SinkError::Memory => CheckRefusal::Memory,
-        }
-    }
-}
-
-impl From<PrintRefusal> for CheckRefusal {
-    ghost use Rattle.std.specs.Prelude.{◌≡◌};
-    ghost use Rattle.smt_runs.specs.Refusal.{unprinted_refusal};
-
-    ghost from_gives = { λ why refusal. refusal ≡ unprinted_refusal why };
-
-    fn from(why: PrintRefusal) -> CheckRefusal {
-        match why {
-            PrintRefusal::Encode(why) => CheckRefusal::Encode(why),
-            PrintRefusal::Sink => CheckRefusal::Sink,
-            PrintRefusal::Memory => CheckRefusal::Memory,
+    fn line(&self) -> &'static str {
+        match self {
+            Refusal::Job(why) => why.line(),
+            Refusal::Input(why) => why.line(),
+            Refusal::NotTwo => "job refused: NotTwo\n",
+            Refusal::Encode(why) => why.line(),
+            Refusal::Blast(why) => why.line(),
+            Refusal::Source => "source fault\n",
+            Refusal::Sink => "sink fault\n",
+            Refusal::Start => "no start\n",
+            Refusal::Session(kind) => line_of_session(*kind),
+            Refusal::Memory => "memory\n",
         }
     }
 }

@@ -5,7 +5,7 @@ ghost use Rattle.smt_jobs.specs.Numbered.{numbered_steps};
 ghost use Rattle.smt_script.specs.Sink.{Rose};
 ghost use Rattle.smt_runs.specs.Jobs.{HasReadCause, IsReadOf};
 
-use crate::refusal::ReadRefusal;
+use crate::refusal::Refusal;
 use smt_jobs::{GREATEST_JOB, NumberedJob, read_numbered};
 use smt_script::{Source, read_input};
 use std::alloc::Global;
@@ -16,7 +16,7 @@ use std::alloc::Global;
 ///
 /// `Job` comes exactly where the bytes are no job, with the kind of their first fault, `Source` where the source failed, which its
 /// count of faults shows, and `Memory` where there is no memory for the bytes or the job.
-pub fn read_source<R: Source>(alloc: Global, source: &mut R) -> Result<NumberedJob, ReadRefusal>
+pub fn read_source<R: Source>(alloc: Global, source: &mut R) -> Result<NumberedJob, Refusal>
     ensures job { IfOk result (IsReadOf (R.remaining source.old)) }
     ensures balanced { IfOk result (λ job. AreBalanced 0 (numbered_steps job.steps)) }
     ensures ended { OnOk result

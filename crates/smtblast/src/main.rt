@@ -1,7 +1,7 @@
 //! `smtblast`: the script of a job's terms over bitvectors, as terms over their bits.
 #![tactic(auto)]
 
-use smt_blast_run::{Refusal, blast_run};
+use smt_blast::{USAGE, blast_run};
 use smt_program::begin;
 use std::process::ExitCode;
 
@@ -9,8 +9,7 @@ use std::process::ExitCode;
 const INSTALLED: &str = "";
 
 fn main(rt: HostRuntime) -> ExitCode {
-    let usage = Refusal::Usage.line();
-    let begun = begin(&rt, usage, INSTALLED, rt.stdin(), rt.stdout(), rt.stderr());
+    let begun = begin(&rt, USAGE, INSTALLED, rt.stdin(), rt.stdout(), rt.stderr());
     ExitCode::from(match begun {
         Ok(mut on) => {
             let words = on.words.as_slice();

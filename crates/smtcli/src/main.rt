@@ -1,8 +1,8 @@
 //! `smtcli`: the script of a job, a solver's verdict on it, or why there is none.
 #![tactic(auto)]
 
-use smt_cli::{Refusal, run};
-use smt_program::{begin, end_with};
+use smt_cli::{Refusal, USAGE, run};
+use smt_program::{Refused, begin, end_with};
 use smt_solve::ChildStarter;
 use std::process::ExitCode;
 
@@ -10,8 +10,7 @@ use std::process::ExitCode;
 const INSTALLED: &str = "";
 
 fn main(rt: HostRuntime) -> ExitCode {
-    let usage = Refusal::Usage.line();
-    let begun = begin(&rt, usage, INSTALLED, rt.stdin(), rt.stdout(), rt.stderr());
+    let begun = begin(&rt, USAGE, INSTALLED, rt.stdin(), rt.stdout(), rt.stderr());
     ExitCode::from(match begun {
         Ok(mut on) => match rt.clone() {
             Ok(processes) => {

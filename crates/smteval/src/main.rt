@@ -1,7 +1,7 @@
 //! `smteval`: whether an assignment makes the terms of a job true.
 #![tactic(auto)]
 
-use smt_eval_run::{Refusal, eval_run};
+use smt_eval::{USAGE, eval_run};
 use smt_program::begin;
 use std::process::ExitCode;
 
@@ -9,8 +9,7 @@ use std::process::ExitCode;
 const INSTALLED: &str = "";
 
 fn main(rt: HostRuntime) -> ExitCode {
-    let usage = Refusal::Usage.line();
-    let begun = begin(&rt, usage, INSTALLED, rt.stdin(), rt.stdout(), rt.stderr());
+    let begun = begin(&rt, USAGE, INSTALLED, rt.stdin(), rt.stdout(), rt.stderr());
     ExitCode::from(match begun {
         Ok(mut on) => {
             let words = on.words.as_slice();

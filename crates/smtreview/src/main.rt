@@ -1,8 +1,8 @@
 //! `smtreview`: whether two conditions are the same, one implies the other, or they are disjoint, by a solver.
 #![tactic(auto)]
 
-use smt_program::{begin, end_with};
-use smt_review::{Refusal, review_run};
+use smt_program::{Refused, begin, end_with};
+use smt_review::{Refusal, USAGE, review_run};
 use smt_solve::ChildStarter;
 use std::process::ExitCode;
 
@@ -10,8 +10,7 @@ use std::process::ExitCode;
 const INSTALLED: &str = "";
 
 fn main(rt: HostRuntime) -> ExitCode {
-    let usage = Refusal::Usage.line();
-    let begun = begin(&rt, usage, INSTALLED, rt.stdin(), rt.stdout(), rt.stderr());
+    let begun = begin(&rt, USAGE, INSTALLED, rt.stdin(), rt.stdout(), rt.stderr());
     ExitCode::from(match begun {
         Ok(mut on) => match rt.clone() {
             Ok(processes) => {

@@ -2,7 +2,7 @@
 
 use crate::ends::{End, expect_end, run_with};
 use crate::expected::expect_bytes;
-use smt_blast_run::blast_run;
+use smt_blast::blast_run;
 use smt_solve::Link;
 use smt_stream::MiniLink;
 use std::alloc::Global;

@@ -1,7 +1,7 @@
 //! Whole runs of the program that evaluates: the truths that it prints, and why it prints none.
 
 use crate::ends::{End, expect_end, run_with};
-use smt_eval_run::eval_run;
+use smt_eval::eval_run;
 use std::alloc::Global;
 use std::process::Abort;
 use test_words::{AMPLE, texts_of};

@@ -2,6 +2,7 @@
 use crate::ends::{End, expect_end};
 use crate::expected::{expect, expect_bytes, expect_status, expect_text};
 use smt_cli::{EncodeRefusal, MemorySource, Refusal, SessionFault, Source, run};
+use smt_program::Refused;
 use smt_script::{BufferedSink, ListSink, MemorySink};
 use smt_solve::{LinkList, MemoryStarter};
 use std::alloc::Global;

@@ -3,7 +3,7 @@ use Rattle.smt_cli.proofs.command.command_of.Goals as goal
 
 pub returns-in_default : goal.returns-in_default
 returns-in_default c =
-    unasked c.args.words.now c.word-item.result c.as_str.result.now c.in-len1.len_at_least c.in-len1.len_below c.word-item.is c.as_str.ensures.value c.in_default.not-script c.in_default.not-text c.in_default.not-text-2
+    unasked c.args.words.now c.word-item.result c.as_str.result.now c.in-len1.len_at_least c.in-len1.len_below c.word-item.is c.as_str.ensures.value c.in_default.not-script
 
 pub returns-in_default-as_str : goal.returns-in_default-as_str
 returns-in_default-as_str c =

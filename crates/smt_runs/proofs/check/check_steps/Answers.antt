@@ -9,7 +9,6 @@ use Rattle.smt_solve.specs.Starter.{command_of}
 use Rattle.smt_encode.specs.Encoded.{enums_in, nodes_in}
 use Rattle.smt_jobs.specs.Numbers.{steps_by}
 use Rattle.smt_runs.specs.Asking.{SpokeAtLeast, WhyNotAsked}
-use Rattle.smt_runs.specs.Refusal.{unprinted_refusal}
 use Rattle.smt_runs.proofs.Starting.{asked_anyway, at_there, begun_at, first_balanced, handed_err, handed_ok, lost, not_started, print_cause_there, refused_anyway, so_far_at, spoke_anyway, spoke_too, stopped_at_start}
 use Rattle.smt_runs.proofs.Verdicts.{by_refusal}
 use Rattle.smt_runs.proofs.check.check_steps.Goals as goal
@@ -24,7 +23,7 @@ returns-in_err-lines-clause-refused g c =
     let failed = Rose (g.W.Sink.faults c.args.out.now) (g.W.Sink.faults c.args.out.now) in
     let enums = enums_of c.args.enums.now in
     let steps = steps_by c.args.nodes c.args.steps.now in
-    by_refusal (WhyNotAsked g.P.L.Link.state (g.P.Starter.allows c.args.starter.now) told told (command_of c.args.solver.now) enums steps held held failed) c.from_residual.result (unprinted_refusal c.in_err-lines.field-0.0) c.from_residual.ensures.1
+    by_refusal (WhyNotAsked g.P.L.Link.state (g.P.Starter.allows c.args.starter.now) told told (command_of c.args.solver.now) enums steps held held failed) c.from_residual.result c.in_err-lines.field-0.0 c.from_residual.ensures.1
     (not_started g.P.L.Link.state (g.P.Starter.allows c.args.starter.now) told told (command_of c.args.solver.now) enums steps held held failed c.in_err-lines.field-0.0 refl refl
     (print_cause_there (enums_in c.with_nodes-encoder.result) enums (nodes_in c.with_nodes-encoder.result) c.args.nodes c.args.steps.now c.next_piece-encoder.result.1 c.in_err-lines.field-0.0 c.with_nodes-encoder.ensures.enums c.with_nodes-encoder.ensures.nodes c.in_err-lines.was c.next_piece-encoder.ensures.refused))
 

@@ -9,7 +9,7 @@ use Rattle.smt_encode.specs.Encoded.{enums_in, nodes_in}
 use Rattle.smt_jobs.specs.Numbers.{steps_by}
 use Rattle.smt_runs.specs.Asking.{StopsAsking}
 use Rattle.smt_runs.specs.Jobs.{HasPrintCause}
-use Rattle.smt_runs.specs.Refusal.{check_refusal, unprinted_refusal}
+use Rattle.smt_runs.specs.Refusal.{check_refusal}
 use Rattle.smt_runs.proofs.AtLeast.{at_least_nothing}
 use Rattle.smt_runs.proofs.Between.{none_left}
 use Rattle.smt_runs.proofs.Loop.{known_nothing}
@@ -51,7 +51,7 @@ pub returns-in_err-more-clause-refused : goal.returns-in_err-more-clause-refused
 returns-in_err-more-clause-refused g c steps start =
     let failed = Rose (g.W.Sink.faults c.args.out.now) (g.W.Sink.faults c.put_verdict.new.out) in
     by_refusal (StopsAsking (enums_in c.args.encoder) steps (g.W.Sink.contents c.args.out.now) (g.W.Sink.contents c.put_verdict.new.out) failed (g.K.Link.allows (session_link c.args.session.now)) (g.K.Link.state (session_link c.put_verdict.new.session)))
-    c.from_residual-in_err-more.result (unprinted_refusal c.in_err-more.field-0.0) c.from_residual-in_err-more.ensures.1
+    c.from_residual-in_err-more.result c.in_err-more.field-0.0 c.from_residual-in_err-more.ensures.1
     (piece_refused g.K.Link.state g.K.Link.allows g.W.Sink.contents g.W.Sink.faults c.args.encoder c.args.left.now (list_bytes c.args.lines) c.args.session.now c.args.out.now c.loop-behind.encoder c.loop-behind.left.now (list_bytes c.loop-behind.lines) c.loop-behind.session c.loop-behind.out c.loop-behind.invariant c.in-Some.field-0-0.now c.in-Some.behind.now c.in-Some.ensures.cases.0 c.put_verdict.new.session c.put_verdict.new.out c.bytes.result.now c.bytes.ensures c.in_ok-put_verdict.ensures.asked steps start failed c.in_err-more.field-0.0
     (refused_with c.next_piece-next.result.1 c.in_err-more.field-0.0 (HasPrintCause (first_fault (enums_in c.loop-behind.encoder) (asserted (steps_by (nodes_in c.loop-behind.encoder) c.in-Some.behind.now))) ⊥) c.in_err-more.was c.next_piece-next.ensures.refused))
 

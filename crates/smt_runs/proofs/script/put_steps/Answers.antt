@@ -1,7 +1,7 @@
 use Rattle.std.proofs.Common.{◌∷◌, refl, ap, ◌∙◌}
 use Rattle.std.specs.Prelude.{is_err}
 use Rattle.law_theorem.specs.Fits.{new_stages}
-use Rattle.law_job_scripts.specs.JobTexts.{stages_behind}
+use Rattle.smt_runs.specs.JobTexts.{stages_behind}
 use Rattle.smt_term.specs.Enums.{enums_of}
 use Rattle.smt_encode.specs.Encoded.{enums_in, nodes_in}
 use Rattle.smt_runs.proofs.Between.{all_put, cause_left, fewer_left, left_balanced, none_left, piece_at, stand_at, underway_from, underway_then}

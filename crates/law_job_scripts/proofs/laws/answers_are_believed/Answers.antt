@@ -1,5 +1,0 @@
-use Rattle.law_job_scripts.proofs.Believing.{answers_are_believed}
-use Rattle.law_job_scripts.proofs.laws.answers_are_believed.Goals as goal
-
-pub returns : goal.returns
-returns g c = answers_are_believed (g.L.Link.allows c.args.link.now)

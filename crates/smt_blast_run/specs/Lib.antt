@@ -1,6 +1,0 @@
-pub mod Causes
-pub mod Current
-pub mod Meaning
-pub mod Refusal
-pub mod Run
-pub mod Words

@@ -1,5 +1,0 @@
-pub mod Answers
-pub mod Causes
-pub mod Refusal
-pub mod Run
-pub mod Words
